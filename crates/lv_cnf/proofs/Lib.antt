@@ -1,0 +1,5 @@
+pub mod Logic
+pub mod LogSteps
+pub mod Count
+pub mod Nodes
+pub mod Ranges

@@ -1,0 +1,4 @@
+pub mod Adapters
+pub mod Causes
+pub mod Held
+pub mod Streams

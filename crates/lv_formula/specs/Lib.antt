@@ -1,0 +1,7 @@
+pub mod formers
+pub mod Contexts
+pub mod Fits
+pub mod Measures
+pub mod Symbols
+pub mod TemporalMeasures
+pub mod Vocabulary

@@ -1,0 +1,11 @@
+pub mod SameLemmas
+pub mod ValueLemmas
+pub mod JusticeLemmas
+pub mod SearchLemmas
+pub mod Fronts
+pub mod Rooms
+pub mod CallLemmas
+pub mod HeadlineLemmas
+pub mod JudgeLemmas
+pub mod ItemLoops
+pub mod WordLemmas

@@ -1,0 +1,13 @@
+pub mod Answers
+pub mod Calls
+pub mod Given
+pub mod Grammar
+pub mod Labels
+pub mod Monitor
+pub mod Obligations
+pub mod Same
+pub mod Search
+pub mod Spelling
+pub mod Texts
+pub mod Truth
+pub mod Words

@@ -1,0 +1,9 @@
+pub mod Stack
+pub mod Steps
+pub mod Balance
+pub mod Lexing
+pub mod Trees
+pub mod NoFault
+pub mod Building
+pub mod Reading
+pub mod Lines
