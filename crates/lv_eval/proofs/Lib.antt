@@ -1,0 +1,4 @@
+pub mod AgreeLaw
+pub mod Below
+pub mod Readings
+pub mod TermLaws

@@ -1,0 +1,6 @@
+use Rattle.std.proofs.Common.{◌≡◌, drop}
+use Rattle.lv_struct.specs.Tuples.{has_tuple}
+use Rattle.lv_struct.proofs.tuples.contains_tuple.Given as goal
+
+abbrev pub invariant-loop-t : goal.invariant-loop-t
+invariant-loop-t l = has_tuple (drop l.t-index l.tuples) l.tuple ≡ has_tuple l.tuples l.tuple

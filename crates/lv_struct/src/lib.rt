@@ -1,0 +1,16 @@
+//! Finite structures: the sizes of the sorts, the tuples of the relations and the elements of the
+//! constants.
+//!
+//! The elements of a sort are the numbers below its size. Contracts see a structure as its tables, and
+//! read the tables as functions: which tuple a relation has, and which element a constant is.
+#![tactic(auto)]
+
+mod changes;
+mod compare;
+mod structure;
+mod tables;
+#[cfg(test)]
+mod tests;
+mod tuples;
+
+pub use structure::Structure;
