@@ -1,0 +1,6 @@
+pub mod AgreeLaw
+pub mod InstantiateLaw
+pub mod ReplaceLaw
+pub mod SampleLaws
+pub mod ShiftLaw
+pub mod TableLaw

@@ -1,0 +1,16 @@
+//! Formulas are rewritten under their binders.
+//!
+//! Each call gives the formula of a definition, with nothing simplified, and states what the rewriting
+//! does to the formula's truth in a structure. Variables are numbered from the innermost binder on, so
+//! a term that passes under a binder has its variables raised, and no binder captures a variable.
+#![tactic(auto)]
+
+mod instantiating;
+mod replacing;
+mod shifting;
+#[cfg(test)]
+mod tests;
+
+pub use instantiating::instantiate;
+pub use replacing::replace;
+pub use shifting::shift;
