@@ -12,9 +12,11 @@ use Rattle.lv_formula.specs.Fits.{sort_of, is_sort, agree, have_sorts, are_argum
 use Rattle.lv_formula.proofs.Folds.{folds_at, fold_at-Atom, fold_at-Same, fold_at-Not, fold_at-And, fold_at-Or, fold_at-Implies, fold_at-Iff, fold_at-All, fold_at-Any}
 use Rattle.lv_formula.proofs.Induction.{Cases, Each, by_cases}
 use Rattle.lv_struct.specs.Meaning.{AgreeOn, IsStructureOf, Meaning, in_range, is_element}
+use Rattle.lv_eval.proofs.Below.{all_below_same, any_below_same}
 use Rattle.lv_eval.specs.Truth.{Env, value_of, values_of, truth_in, all_true_in, any_true_in, all_below, any_below, iff}
 
-same_sort : (o : Option SortId) (s : SortId) → is_sort o s ≡ true → o ≡ Some s
+-- the sort that a term is seen to have
+pub same_sort : (o : Option SortId) (s : SortId) → is_sort o s ≡ true → o ≡ Some s
 same_sort None s h = cc
 same_sort (Some t) s h = let e : t.0 ≡ s.0 = eqb-true t.0 s.0 h in λ i. Some (record { 0 = e i })
 
@@ -22,14 +24,16 @@ known_sort : (o p : Option SortId) → agree o p ≡ true → (s : SortId) × (o
 known_sort o None h = cc
 known_sort o (Some s) h = (s, same_sort o s h, refl)
 
-element_of : (m : Meaning) (ctx : List SortId) (env : Env) (i : ℕ) (s : SortId) → slice_get ctx i ≡ Some s → in_range m ctx env ≡ true → is_element m s (get_or env i 0) ≡ true
+-- a variable's value is an element of its sort
+pub element_of : (m : Meaning) (ctx : List SortId) (env : Env) (i : ℕ) (s : SortId) → slice_get ctx i ≡ Some s → in_range m ctx env ≡ true → is_element m s (get_or env i 0) ≡ true
 element_of m [] env i s e h = cc
 element_of m (t ∷ ss) [] i s e h = cc
 element_of m (t ∷ ss) (x ∷ xs) zero s e h = let same : t ≡ s = cc in subst (λ r. is_element m r x ≡ true) same (and_parts (is_element m t x) (in_range m ss xs) h).0
 element_of m (t ∷ ss) (x ∷ xs) (suc i) s e h = element_of m ss xs i s e (and_parts (is_element m t x) (in_range m ss xs) h).1
 
 module _ (voc : Vocabulary) (m n : Meaning) (sound : IsStructureOf voc m) (agrees : AgreeOn voc m n) where
-  term_agrees : (ctx : List SortId) (env : Env) (t : Term) (s : SortId) → sort_of voc ctx t ≡ Some s → in_range m ctx env ≡ true
+  -- a term is the same element in both, of its sort
+  pub term_agrees : (ctx : List SortId) (env : Env) (t : Term) (s : SortId) → sort_of voc ctx t ≡ Some s → in_range m ctx env ≡ true
       → (value_of m env t ≡ value_of n env t) × (is_element m s (value_of m env t) ≡ true)
   term_agrees ctx env (Var i) s e h = (refl, element_of m ctx env i s e h)
   term_agrees ctx env (Const c) s e h = (agrees.constants c s e, lt-ltb (m.value c) (m.size s) (sound.constants c s e))
@@ -65,15 +69,6 @@ module _ (voc : Vocabulary) (m n : Meaning) (sound : IsStructureOf voc m) (agree
   any_agree (f ∷ fs) each ctx env e h = let both = and_parts (fits_in voc ctx f) (all_fit_in voc ctx fs) e in
       ap₂ (λ a b. a || b) (each.0 ctx env both.0 h) (any_agree fs each.1 ctx env both.1 h)
 
-  -- tests of the numbers below k that agree there
-  all_below_agree : (k : ℕ) (p q : ℕ → Bool) → ((x : ℕ) → x < k → p x ≡ q x) → all_below k p ≡ all_below k q
-  all_below_agree zero p q h = refl
-  all_below_agree (suc k) p q h = ap₂ (λ a b. a && b) (all_below_agree k p q (λ x lt. h x (omega arith))) (h k (omega arith))
-
-  any_below_agree : (k : ℕ) (p q : ℕ → Bool) → ((x : ℕ) → x < k → p x ≡ q x) → any_below k p ≡ any_below k q
-  any_below_agree zero p q h = refl
-  any_below_agree (suc k) p q h = ap₂ (λ a b. a || b) (any_below_agree k p q (λ x lt. h x (omega arith))) (h k (omega arith))
-
   cases : Cases Same
   cases = record {
     at_true = λ ctx env e h. simp folds_at refl;
@@ -90,9 +85,9 @@ module _ (voc : Vocabulary) (m n : Meaning) (sound : IsStructureOf voc m) (agree
     at_iff = λ f g ihf ihg ctx env e h. let both = and_parts (fits_in voc ctx f) (fits_in voc ctx g) (simp folds_at at e) in
         simp folds_at (ap₂ iff (ihf ctx env both.0 h) (ihg ctx env both.1 h));
     at_all = λ s f ih ctx env e h. let both = and_parts (ltb s.0 voc.sorts) (fits_in voc (s ∷ ctx) f) (simp folds_at at e) in
-        simp folds_at (all_below_agree (m.size s) (λ x. truth_in m f (x ∷ env)) (λ x. truth_in n f (x ∷ env)) (λ x lt. ih (s ∷ ctx) (x ∷ env) both.1 (and_from (is_element m s x) (in_range m ctx env) (lt-ltb x (m.size s) lt) h)) ∙ ap (λ k. all_below k (λ x. truth_in n f (x ∷ env))) (agrees.sizes s));
+        simp folds_at (all_below_same (m.size s) (λ x. truth_in m f (x ∷ env)) (λ x. truth_in n f (x ∷ env)) (λ x lt. ih (s ∷ ctx) (x ∷ env) both.1 (and_from (is_element m s x) (in_range m ctx env) (lt-ltb x (m.size s) lt) h)) ∙ ap (λ k. all_below k (λ x. truth_in n f (x ∷ env))) (agrees.sizes s (ltb-true s.0 voc.sorts both.0)));
     at_any = λ s f ih ctx env e h. let both = and_parts (ltb s.0 voc.sorts) (fits_in voc (s ∷ ctx) f) (simp folds_at at e) in
-        simp folds_at (any_below_agree (m.size s) (λ x. truth_in m f (x ∷ env)) (λ x. truth_in n f (x ∷ env)) (λ x lt. ih (s ∷ ctx) (x ∷ env) both.1 (and_from (is_element m s x) (in_range m ctx env) (lt-ltb x (m.size s) lt) h)) ∙ ap (λ k. any_below k (λ x. truth_in n f (x ∷ env))) (agrees.sizes s));
+        simp folds_at (any_below_same (m.size s) (λ x. truth_in m f (x ∷ env)) (λ x. truth_in n f (x ∷ env)) (λ x lt. ih (s ∷ ctx) (x ∷ env) both.1 (and_from (is_element m s x) (in_range m ctx env) (lt-ltb x (m.size s) lt) h)) ∙ ap (λ k. any_below k (λ x. truth_in n f (x ∷ env))) (agrees.sizes s (ltb-true s.0 voc.sorts both.0)));
   }
 
   pub truth_agrees : (f : Formula) (ctx : List SortId) (env : Env) → fits_in voc ctx f ≡ true → in_range m ctx env ≡ true → truth_in m f env ≡ truth_in n f env

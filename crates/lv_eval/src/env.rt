@@ -45,6 +45,19 @@ impl Env {
         Ok(())
     }
 
+    /// Takes these values, the innermost variable's last, in place of the ones that are there. Takes no
+    /// memory: there are as many places as before, values and room together.
+    pub fn put(&mut self, values: &[u32])
+        requires { length values.now ≤ length self.old.values + self.old.room }
+        ensures values { self.new.values ≡ reverse values.now }
+        ensures places { length self.new.values + self.new.room ≡ length self.old.values + self.old.room }
+    {
+        self.values.truncate(0);
+        for value in values {
+            self.values.push_reserved(*value);
+        }
+    }
+
     /// The value of the variable, 0 if it has none.
     pub(crate) fn value(&self, i: u32) -> u32
         ensures { result ≡ get_or self.now.values i 0 }

@@ -1,6 +1,7 @@
 -- A formula stands in a context over a vocabulary. The context lists the innermost variable's sort first.
-use Rattle.std.specs.Prelude.{Bool, true, false, ◌&&◌, ltb, eqb, List, [], ◌∷◌, Option, Some, None, slice_get, map}
+use Rattle.std.specs.Prelude.{Bool, true, false, ◌&&◌, cond, ltb, eqb, List, [], ◌∷◌, Option, Some, None, slice_get, map}
 use Rattle.lv_formula.specs.declared.symbols.SortId.{SortId}
+use Rattle.lv_formula.specs.declared.symbols.Sym.{Sym}
 use Rattle.lv_formula.specs.declared.terms.Term.{Term}
 use Rattle.lv_formula.specs.declared.terms.Term.TheVariants.{Var, Const}
 use Rattle.lv_formula.specs.declared.vocabulary.Vocabulary.{Vocabulary}
@@ -58,3 +59,35 @@ fits_in voc context f = fold-Formula (List SortId → Bool) (fits_step voc) f co
 
 abbrev pub all_fit_in : Vocabulary → List SortId → List Formula → Bool
 all_fit_in voc context fs = each_fits (map (fold-Formula (List SortId → Bool) (fits_step voc)) fs) context
+
+abbrev pub has_sort : Option SortId → Bool
+has_sort None = false
+has_sort (Some sort) = true
+
+-- each term has a sort
+abbrev pub are_scoped : Vocabulary → List SortId → List Term → Bool
+are_scoped voc context [] = true
+are_scoped voc context (t ∷ ts) = has_sort (sort_of voc context t) && are_scoped voc context ts
+
+abbrev pub fits_up_to_step : (Sym → Bool) → Vocabulary → Formula-F (List SortId → Bool) → List SortId → Bool
+fits_up_to_step is_free voc True context = true
+fits_up_to_step is_free voc False context = true
+fits_up_to_step is_free voc (Atom sym terms) context = cond (is_free sym) (are_scoped voc context terms) (are_arguments voc context terms (relation_in voc.relations sym))
+fits_up_to_step is_free voc (Same a b) context = agree (sort_of voc context a) (sort_of voc context b)
+fits_up_to_step is_free voc (Not f) context = f context
+fits_up_to_step is_free voc (And fs) context = each_fits fs context
+fits_up_to_step is_free voc (Or fs) context = each_fits fs context
+fits_up_to_step is_free voc (Implies a b) context = a context && b context
+fits_up_to_step is_free voc (Iff a b) context = a context && b context
+fits_up_to_step is_free voc (All sort f) context = ltb sort.0 voc.sorts && f (sort ∷ context)
+fits_up_to_step is_free voc (Any sort f) context = ltb sort.0 voc.sorts && f (sort ∷ context)
+
+abbrev pub none_free : Sym → Bool
+none_free sym = false
+
+-- the same, where the relations that pass the test may have any terms with a sort, and need not be the vocabulary's
+abbrev pub fits_up_to : (Sym → Bool) → Vocabulary → List SortId → Formula → Bool
+fits_up_to is_free voc context f = fold-Formula (List SortId → Bool) (fits_up_to_step is_free voc) f context
+
+abbrev pub all_fit_up_to : (Sym → Bool) → Vocabulary → List SortId → List Formula → Bool
+all_fit_up_to is_free voc context fs = each_fits (map (fold-Formula (List SortId → Bool) (fits_up_to_step is_free voc)) fs) context

@@ -1,8 +1,10 @@
 ghost use Rattle.std.specs.Prelude.{◌≡◌, IfOk, IsTrue, ◌↔◌, reverse};
-ghost use Rattle.lv_formula.specs.Fits.{fits_in};
+ghost use Rattle.lv_formula.specs.Fits.{fits_in, fits_up_to};
+ghost use Rattle.lv_formula.specs.Contexts.{context_of};
 ghost use Rattle.lv_formula.specs.Measures.{depth_of, depth_of_all, at_most_u32, nodes_of, nodes_of_all, at_most_u64, free_bound_of, free_bound_of_all};
 
 use crate::list::List;
+use crate::lookup::Lookup;
 use crate::memory::Memory;
 use crate::rc::Rc;
 use crate::scope::{Scope, fits_in_scope};
@@ -104,10 +106,19 @@ impl Formula {
     /// Whether the formula stands in the context over the vocabulary: each variable is bound or in the
     /// context, each symbol is the vocabulary's, and each term has the sort of its place. The context
     /// lists the innermost variable's sort last.
+    #[tactic(auto, using(crate::proofs::FitsLemmas::fits_where_none_is_free))]
     pub fn fits(&self, voc: &Vocabulary, context: &[SortId]) -> bool
         ensures { result ≡ fits_in voc.now (reverse context.now) self.now }
     {
         fits_in_scope(self, voc, &Scope::Outer(context))
+    }
+
+    /// Whether the formula stands in the scope over what is looked up, where the relations that are
+    /// free may have any terms that have a sort.
+    pub fn fits_over<L: Lookup>(&self, lookup: &L, scope: &Scope) -> bool
+        ensures { result ≡ fits_up_to (L.is_free lookup.now) (L.vocabulary lookup.now) (context_of scope.now) self.now }
+    {
+        fits_in_scope(self, lookup, scope)
     }
 
     /// Whether the two are one formula.

@@ -7,11 +7,13 @@
 mod build;
 mod formula;
 mod list;
+mod lookup;
 mod memory;
 mod rc;
 mod scope;
 mod symbols;
 mod temporal;
+mod temporal_scope;
 mod terms;
 #[cfg(test)]
 mod tests;
@@ -21,8 +23,10 @@ mod vocabulary;
 pub use build::{all, and, any, atom, iff, implies, not, or, same};
 pub use formula::Formula;
 pub use list::{List, Text};
+pub use lookup::Lookup;
 pub use memory::Memory;
 pub use rc::Rc;
+pub use scope::{Scope, has_sort_in};
 pub use symbols::{SortId, Sym};
 pub use temporal::Temporal;
 pub use terms::{Term, Terms};

@@ -1,11 +1,16 @@
 ghost use Rattle.std.specs.Prelude.{◌≡◌, IfOk, IsTrue, ◌↔◌};
 ghost use Rattle.lv_formula.specs.TemporalMeasures.{temporal_nodes_of, temporal_nodes_of_all};
 ghost use Rattle.lv_formula.specs.Measures.{at_most_u64};
+ghost use Rattle.lv_formula.specs.TemporalFits.{temporal_fits_in};
+ghost use Rattle.lv_formula.specs.Contexts.{context_of};
 
 use crate::list::List;
+use crate::lookup::Lookup;
 use crate::memory::Memory;
 use crate::rc::Rc;
+use crate::scope::Scope;
 use crate::symbols::{SortId, Sym};
+use crate::temporal_scope::temporal_fits_in_scope;
 use crate::terms::{Term, Terms, equal_terms};
 use std::alloc::Global;
 
@@ -52,6 +57,14 @@ impl Temporal {
                 a.nodes().saturating_add(b.nodes()).saturating_add(1)
             }
         }
+    }
+
+    /// Whether the temporal formula stands in the scope over what is looked up: each variable is bound or in
+    /// the scope, each symbol is the vocabulary's, and each term has the sort of its place.
+    pub fn fits_over<L: Lookup>(&self, lookup: &L, scope: &Scope) -> bool
+        ensures { result ≡ temporal_fits_in (L.vocabulary lookup.now) (context_of scope.now) self.now }
+    {
+        temporal_fits_in_scope(self, lookup, scope)
     }
 
     /// Whether the two are one temporal formula.

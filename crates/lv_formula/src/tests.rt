@@ -1,7 +1,7 @@
 //! Each call that allocates, once with ample memory, and values worked out by hand.
 use super::{
-    ConShape, Formula, List, Rc, RelShape, SortId, Sym, Temporal, Term, Terms, Vocabulary, all,
-    and, any, atom, iff, implies, not, or, same,
+    ConShape, Formula, List, Rc, RelShape, Scope, SortId, Sym, Temporal, Term, Terms, Vocabulary,
+    all, and, any, atom, has_sort_in, iff, implies, not, or, same,
 };
 use std::alloc::Global;
 use std::ops::Deref;
@@ -158,5 +158,30 @@ fn temporal_formulas(rt: HostRuntime) -> Result<(), Fail> {
     let f = Temporal::Always(Rc::new(rt.alloc(), soon)?);
     assert_eq!(rt; f.nodes(), 3);
     assert!(rt; f.equal(&f.share(rt.alloc())?));
+    Ok(())
+}
+
+#[test]
+fn scopes_are_in_parts(rt: HostRuntime) -> Result<(), Fail> {
+    let voc = vocabulary(rt.alloc())?;
+    let q = Temporal::Atom(Q, Terms::of(rt.alloc(), &[Term::Var(2), Term::Var(0)])?);
+    let soon = Temporal::Eventually(Rc::new(rt.alloc(), q)?);
+    let f = Temporal::Any(PLACE, Rc::new(rt.alloc(), soon)?);
+    let outer = Scope::Outer(&[PLACE, THING]);
+    assert!(rt; f.fits_over(&voc, &Scope::Further(&[PLACE], &outer)));
+    assert!(rt; !f.fits_over(&voc, &Scope::Further(&[THING, PLACE, PLACE], &outer)));
+    assert!(rt; !f.fits_over(&voc, &Scope::Outer(&[PLACE])));
+    let p = atom(rt.alloc(), P, &[Term::Var(1)])?;
+    assert!(rt; p.fits_over(&voc, &Scope::Further(&[PLACE], &outer)));
+    assert!(rt;
+        has_sort_in(
+            &Term::Var(2),
+            PLACE,
+            &voc,
+            &Scope::Further(&[THING], &outer)
+        )
+    );
+    assert!(rt; has_sort_in(&Term::Const(C), THING, &voc, &outer));
+    assert!(rt; !has_sort_in(&Term::Const(P), THING, &voc, &outer));
     Ok(())
 }

@@ -62,6 +62,11 @@ abbrev pub set_by : Option Formula → Valuation → ℕ → Bool
 set_by None old n = old (Own n)
 set_by (Some f) old n = truth_in old f
 
+-- the action sets its relations, all by the old state
+abbrev pub set_all : List ActionUpdate → Valuation → Valuation
+set_all updates old (Own n) = set_by (update_of updates n) old n
+set_all updates old sym = old sym
+
 -- the action sets its relations, all by the old state, and each label takes its next value
 abbrev pub performed : List ActionUpdate → Valuation → Valuation → Valuation
 performed updates old m (Own n) = set_by (update_of updates n) old n

@@ -1,7 +1,7 @@
 //! The monitored structure at the start and after a step, and when a move is allowed or a state is caught.
 ghost use Rattle.std.specs.Prelude.{◌≡◌, ◌≤◌, ◌+◌, Option, Some, None, length, slice_get};
 ghost use Rattle.lv_run.specs.Truth.{value_in};
-ghost use Rattle.lv_run.specs.Monitor.{opening, moved, stepped, update_of, holds_if_there, none_due, is_allowed, relations_return, labels_return, is_caught, lent_formula};
+ghost use Rattle.lv_run.specs.Monitor.{opening, moved, set_all, stepped, update_of, holds_if_there, none_due, is_allowed, relations_return, labels_return, is_caught, lent_formula};
 
 use crate::tableau::Tableau;
 use crate::truth::{Structure, Valuation, both_or_neither, truth};
@@ -29,6 +29,27 @@ impl Valuation for Opened<'_> {
     }
 }
 
+/// A structure after an action alone: each update reads the structure before all of them.
+#[derive(Clone, Copy)]
+pub(crate) struct Performed<'a> {
+    pub(crate) old: Structure<'a>,
+    pub(crate) updates: &'a [ActionUpdate],
+}
+
+impl Valuation for Performed<'_> {
+    ghost valued = { λ p. set_all p.updates.now (value_in p.old.words.now p.old.values.now) };
+
+    fn holds(&self, sym: Sym) -> bool {
+        match sym {
+            Sym::Own(n) => match update(self.updates, n) {
+                Some(f) => truth(f, &self.old),
+                None => self.old.holds(sym),
+            },
+            _ => self.old.holds(sym),
+        }
+    }
+}
+
 /// A structure after a step: the move, the loss of what was due, the action and the labels' next values.
 #[derive(Clone, Copy)]
 pub(crate) struct Stepped<'a> {
@@ -42,11 +63,10 @@ impl Valuation for Stepped<'_> {
     ghost valued = { λ s. stepped s.justice.now s.updates.now s.mv (value_in s.old.words.now s.old.values.now) };
 
     fn holds(&self, sym: Sym) -> bool {
+        let old = self.old;
+        let updates = self.updates;
         match sym {
-            Sym::Own(n) => match update(self.updates, n) {
-                Some(f) => truth(f, &self.old),
-                None => self.old.holds(sym),
-            },
+            Sym::Own(_) => Performed { old, updates }.holds(sym),
             Sym::Label(l) => self.old.holds(Sym::Next(l)),
             Sym::Due(j) => holds_moved(self.mv, &self.old, sym)
                 && !holds_at(self.justice, j, &self.old),

@@ -4,3 +4,4 @@ pub mod MeaningLaws
 pub mod PairLaws
 pub mod SampleLaws
 pub mod TupleLaws
+pub mod Tabulate

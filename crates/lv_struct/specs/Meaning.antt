@@ -1,4 +1,5 @@
--- A structure as functions. Definitions and laws over structures speak of this record alone.
+-- A structure as functions. Laws over structures speak of this record, and so do definitions, where they don't
+-- ask for structures as data.
 use Rattle.std.specs.Prelude.{◌≡◌, ℕ, ◌<◌, Bool, true, ltb, List, Some}
 use Rattle.lv_formula.specs.declared.symbols.SortId.{SortId}
 use Rattle.lv_formula.specs.declared.symbols.Sym.{Sym}
@@ -25,8 +26,8 @@ pub record IsStructureOf (voc : Vocabulary) (m : Meaning) : Type 0 where
   pub sizes : (s : SortId) → 0 < m.size s
   pub constants : (c : Sym) (s : SortId) → constant_in voc.constants c ≡ Some s → m.value c < m.size s
 
--- both have the same elements, and say the same of what the vocabulary names
+-- both have the same elements of the vocabulary's sorts, and say the same of what it names
 pub record AgreeOn (voc : Vocabulary) (m n : Meaning) : Type 0 where
-  pub sizes : (s : SortId) → m.size s ≡ n.size s
+  pub sizes : (s : SortId) → s.0 < voc.sorts → m.size s ≡ n.size s
   pub relations : (r : Sym) (sorts : List SortId) → relation_in voc.relations r ≡ Some sorts → (tuple : List ℕ) → in_range m sorts tuple ≡ true → m.holds r tuple ≡ n.holds r tuple
   pub constants : (c : Sym) (s : SortId) → constant_in voc.constants c ≡ Some s → m.value c ≡ n.value c

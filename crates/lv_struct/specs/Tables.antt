@@ -58,7 +58,7 @@ sorts_in w sym = relation_in (map relation_shape w.relations) sym
 abbrev pub sort_in : Tables → Sym → Option SortId
 sort_in w sym = constant_in (map constant_shape w.constants) sym
 
--- the sorts and the symbols are the vocabulary's, and the symbols stand in its order
+-- the sorts are the vocabulary's, and so are the relations and the constants, in the order of its lists
 pub record HasVocabulary (voc : Vocabulary) (w : Tables) : Type 0 where
   pub sorts : length w.sizes ≡ voc.sorts
   pub relations : map relation_shape w.relations ≡ voc.relations

@@ -115,7 +115,8 @@ impl Structure {
             && pair_up(self.constants.as_slice(), other.constants.as_slice())
     }
 
-    /// Whether the sorts and symbols are the vocabulary's, with the symbols in its order.
+    /// Whether the sorts are the vocabulary's, and the relations and the constants are those of its lists, in their
+    /// order.
     pub fn has_vocabulary(&self, voc: &Vocabulary) -> bool
         ensures same { IsTrue result ↔ HasVocabulary voc.now self.now }
         // what holds of every structure
@@ -131,6 +132,22 @@ impl Structure {
         self.sizes.as_slice().len() == voc.sorts as usize
             && pair_up(self.relations.as_slice(), voc.relations.as_slice())
             && pair_up(self.constants.as_slice(), voc.constants.as_slice())
+    }
+
+    /// An equal structure. The error is want of memory.
+    pub fn copy(&self, alloc: Global) -> Result<Structure, Memory>
+        ensures value { IfOk result (λ m. m ≡ self.now) }
+        // what holds of every structure
+        ensures sound { IsSound self.now }
+    {
+        let sizes = copy(alloc, self.sizes.as_slice())?;
+        let relations = copy_relations(alloc, self.relations.as_slice())?;
+        let constants = copy(alloc, self.constants.as_slice())?;
+        Ok(Structure {
+            sizes,
+            relations,
+            constants,
+        })
     }
 
     /// The structure in which the relation has these tuples and no others. The error is want of memory.

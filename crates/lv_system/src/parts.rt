@@ -23,7 +23,7 @@ pub enum Shape {
 pub struct Symbol {
     pub name: Text,
     pub shape: Shape,
-    /// Whether no action changes the symbol.
+    /// Whether no action may change the symbol.
     pub fixed: bool,
 }
 
@@ -97,7 +97,8 @@ pub struct Parts {
     pub inits: List<Formula>,
     pub actions: List<Action>,
     pub fairs: List<Fair>,
-    /// The labels, by their number.
+    /// The declarations of labels, in order. The number of a label is its place in the table of labels, which
+    /// has those of witness formulas and of the property too.
     pub labels: List<LabelDecl>,
     /// The witnesses, by their number.
     pub witnesses: List<WitnessDecl>,

@@ -1,0 +1,3 @@
+pub mod FitsFacts
+pub mod LookupLaws
+pub mod NameLaws

@@ -1,0 +1,10 @@
+pub mod Fits
+pub mod InvariantWords
+pub mod Lasso
+pub mod Limits
+pub mod Lookups
+pub mod Names
+pub mod Step
+pub mod TemporalLimits
+pub mod TemporalTruth
+pub mod Vocabularies

@@ -1,0 +1,10 @@
+pub mod Labels
+pub mod Once
+pub mod Positions
+pub mod Problem
+pub mod Renaming
+pub mod Rounds
+pub mod Runs
+pub mod Samples
+pub mod Sameness
+pub mod TrueLabels
