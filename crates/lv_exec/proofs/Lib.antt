@@ -1,0 +1,3 @@
+pub mod PerformLaw
+pub mod RangeLaw
+pub mod SampleLaws
