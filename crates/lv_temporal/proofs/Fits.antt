@@ -18,7 +18,8 @@ use Rattle.lv_formula.proofs.TemporalFolds.{folds, folds_at}
 use Rattle.lv_formula.proofs.TemporalInduction.{by_cases}
 use Rattle.lv_temporal.specs.Once.{is_among, place_of}
 use Rattle.lv_temporal.specs.Renaming.{term_variables, terms_variables, joined, outside, occurrences_of, free_variables, under, renamed_term, renamed, rename_each, renumbered}
-use Rattle.lv_temporal.specs.Labels.{Key, key_of, labelled, plain, plain_each, keys_of, keys_each}
+use Rattle.lv_temporal.specs.declared.key.Key.{Key}
+use Rattle.lv_temporal.specs.Labels.{key_of, labelled, plain, plain_each, keys_of, keys_each}
 use Rattle.lv_temporal.proofs.Once.{each_first, each_second, each_both, placed}
 use Rattle.lv_temporal.proofs.Keys.{sort_at}
 use Rattle.lv_temporal.proofs.LabelsAt.{plains, keys}

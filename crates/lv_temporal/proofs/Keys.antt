@@ -8,7 +8,8 @@ use Rattle.lv_formula.proofs.TemporalFolds.{folds, folds_at, fold_at-Eventually}
 use Rattle.lv_formula.proofs.TemporalInduction.{by_cases}
 use Rattle.lv_temporal.specs.Once.{is_among}
 use Rattle.lv_temporal.specs.Renaming.{joined, outside, occurrences_of, free_variables, under, renamed, rename_each, rename_step, renumbered}
-use Rattle.lv_temporal.specs.Labels.{Key, key_of, labelled, plain, plain_each, keys_of, keys_each}
+use Rattle.lv_temporal.specs.declared.key.Key.{Key}
+use Rattle.lv_temporal.specs.Labels.{key_of, labelled, plain, plain_each, keys_of, keys_each}
 use Rattle.lv_temporal.proofs.Once.{each_first, each_second, each_both, each_weaker}
 use Rattle.lv_temporal.proofs.Occurrences.{Injective, under_injective, free_renamed, free_has, free_each, renamed_after, renumbered_reads, renumbered_injective, renumbered_mapped}
 use Rattle.lv_temporal.proofs.LabelsAt.{plains, keys, keys-Eventually}

@@ -8,7 +8,8 @@ use Rattle.lv_formula.specs.declared.temporal.Temporal.{Temporal}
 use Rattle.lv_formula.specs.declared.temporal.Temporal.TheVariants as T
 use Rattle.lv_formula.specs.declared.temporal.Temporal.TheFolds.{fold-Temporal}
 use Rattle.lv_formula.proofs.TemporalFolds.{fold-True, fold-False, fold-Atom, fold-Same, fold-Not, fold-And, fold-Or, fold-Implies, fold-Iff, fold-All, fold-Any, fold-Always, fold-Eventually}
-use Rattle.lv_temporal.specs.Labels.{Key, Labelled, Reading, key_of, keys_each, keys_of, label_atom, labelled, labelled_step, plain, plain_each, read_each, reading, reading_step, whole_each}
+use Rattle.lv_temporal.specs.declared.key.Key.{Key}
+use Rattle.lv_temporal.specs.Labels.{Labelled, Reading, key_of, keys_each, keys_of, label_atom, labelled, labelled_step, plain, plain_each, read_each, reading, reading_step, whole_each}
 
 pub plain-True : plain T.True ≡ T.True
 plain-True = ap (λ r. r.plain) (fold-True Labelled labelled_step)

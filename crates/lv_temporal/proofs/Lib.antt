@@ -1,4 +1,5 @@
 pub mod Below
+pub mod Few
 pub mod Fits
 pub mod FitsMore
 pub mod HoldsAt
@@ -8,9 +9,10 @@ pub mod Listed
 pub mod Occurrences
 pub mod Once
 pub mod OwnTruth
+pub mod Places
 pub mod Plain
 pub mod Ranges
-pub mod Reading
+pub mod ReadingTruth
 pub mod ReadingFits
 pub mod Renaming
 pub mod SampleLaws

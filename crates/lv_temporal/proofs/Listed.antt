@@ -18,7 +18,7 @@ use Rattle.lv_temporal.specs.Runs.{IsLabelledRun, IsStart, IsState, LabelEquatio
 use Rattle.lv_temporal.specs.TrueLabels.{TrueLabels, chosen_witnesses, listed, position_of, position_on, unrolled}
 use Rattle.lv_temporal.proofs.Below.{any_below_same}
 use Rattle.lv_temporal.proofs.Ranges.{over_same}
-use Rattle.lv_temporal.proofs.Reading.{shown}
+use Rattle.lv_temporal.proofs.ReadingTruth.{shown}
 use Rattle.lv_temporal.proofs.Scoped.{IsScoped}
 use Rattle.lv_temporal.proofs.Turns.{turn_round}
 use Rattle.lv_temporal.proofs.Unrolled.{all_chosen, labelled_run, unrolled_run}

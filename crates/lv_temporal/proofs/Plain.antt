@@ -1,5 +1,7 @@
 -- Formulas with `not always not` for each `eventually`.
-use Rattle.std.proofs.Common.{◌≡◌, ℕ, not, ◌&&◌, ◌||◌, List, [], ◌∷◌, ◌++◌, map, refl, ap, ap₂}
+use Rattle.std.proofs.Common.{◌≡◌, ℕ, not, ◌&&◌, ◌||◌, List, [], ◌∷◌, ◌++◌, map, refl, ap, ap₂, ◌∙◌}
+use Rattle.lv_formula.specs.declared.symbols.SortId.{SortId}
+use Rattle.lv_formula.specs.declared.formula.Formula.TheVariants as F
 use Rattle.lv_formula.specs.declared.temporal.Temporal.{Temporal}
 use Rattle.lv_formula.specs.declared.temporal.Temporal.TheVariants as T
 use Rattle.lv_formula.proofs.Induction.{Each}
@@ -8,10 +10,11 @@ use Rattle.lv_formula.proofs.TemporalInduction.{by_cases}
 use Rattle.lv_eval.specs.Truth.{Env, iff}
 use Rattle.lv_system.specs.TemporalTruth.{Lasso, holds, all_hold, any_holds}
 use Rattle.lv_temporal.specs.Renaming.{joined, outside, occurrences_of, under, renamed, rename_each}
-use Rattle.lv_temporal.specs.Labels.{Key, labelled, plain, plain_each, whole_each}
+use Rattle.lv_temporal.specs.declared.key.Key.{Key}
+use Rattle.lv_temporal.specs.Labels.{label_atom, labelled, plain, plain_each, reading, whole_each}
 use Rattle.lv_temporal.proofs.Below.{all_below_same, any_below_same, later_same}
 use Rattle.lv_temporal.proofs.HoldsAt.{held}
-use Rattle.lv_temporal.proofs.LabelsAt.{plains, read_with, whole, wholes}
+use Rattle.lv_temporal.proofs.LabelsAt.{plains, read-Always, read-Eventually, read_with, whole, wholes}
 
 -- ---- the same variables occur
 
@@ -153,3 +156,11 @@ module _ (table : List Key) where
     at_always = λ f ih. simp (plains, wholes) (ap T.Always ih);
     at_eventually = λ f ih. simp (plains, wholes) (ap (λ x. T.Not (T.Always (T.Not x))) ih);
   }
+
+  -- so `always f` is read as the atom of the label that the table has for it
+  pub always_read : (f : Temporal) (c : List SortId) → reading table c (T.Always f) ≡ label_atom table c (plain f)
+  always_read f c = read-Always table f c ∙ ap (label_atom table c) (whole_plain f)
+
+  -- and `eventually f` as the negated atom of the label for `always not f`
+  pub eventually_read : (f : Temporal) (c : List SortId) → reading table c (T.Eventually f) ≡ F.Not (label_atom table c (T.Not (plain f)))
+  eventually_read f c = read-Eventually table f c ∙ ap (λ g. F.Not (label_atom table c (T.Not g))) (whole_plain f)

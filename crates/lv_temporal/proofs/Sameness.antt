@@ -1,5 +1,5 @@
 -- The test of temporal formulas, and that of labels, is equality.
-use Rattle.std.proofs.Common.{◌≡◌, Bool, true, eqb, List, [], ◌∷◌, map, refl, sym, ap, ap₂, ◌∙◌}
+use Rattle.std.proofs.Common.{◌≡◌, ◌≢◌, ◌↔◌, IsTrue, suc, Bool, true, false, ◌&&◌, eqb, List, [], ◌∷◌, length, map, refl, sym, ap, ap₂, ◌∙◌}
 use Rattle.std.proofs.lemmas.Bool.{and_parts, and_from, false≢true, eqb-true, eq-eqb}
 use Rattle.lv_formula.specs.declared.symbols.SortId.{SortId}
 use Rattle.lv_formula.specs.declared.symbols.Sym.{Sym}
@@ -16,8 +16,10 @@ use Rattle.lv_formula.proofs.SymbolLaws.{sym_eq-true, sym_eq-refl}
 use Rattle.lv_formula.proofs.TemporalFolds.{folds_at}
 use Rattle.lv_formula.proofs.TemporalInduction.{by_cases}
 use Rattle.lv_struct.specs.Tuples.{pairwise}
-use Rattle.lv_temporal.specs.Labels.{Key, key_eq}
+use Rattle.lv_temporal.specs.declared.key.Key.{Key}
+use Rattle.lv_temporal.specs.Labels.{key_eq}
 use Rattle.lv_temporal.specs.Sameness.{term_eq, each_eq, eq_step, temporal_eq}
+use Rattle.lv_temporal.proofs.Below.{bool_iff}
 use Rattle.lv_temporal.proofs.Once.{Decides}
 
 -- ---- terms and sorts
@@ -177,6 +179,21 @@ temporal_refl = by_cases Reflexive record {
   at_always = λ f ih. simp folds_at (passes (T.Always f) (Temporal-F.Always f) (Temporal-F.Always (temporal_eq f)) (rolls-Always f) ih);
   at_eventually = λ f ih. simp folds_at (passes (T.Eventually f) (Temporal-F.Eventually f) (Temporal-F.Eventually (temporal_eq f)) (rolls-Eventually f) ih);
 }
+
+-- a test that tells whether two temporal formulas are equal is this one
+pub temporal_test : (b : Bool) (f g : Temporal) → IsTrue b ↔ (f ≡ g) → b ≡ temporal_eq f g
+temporal_test b f g h = bool_iff b (temporal_eq f g) (λ t. ap (temporal_eq f) (sym (h.0 t)) ∙ temporal_refl f) (λ t. h.1 (temporal_true f g t))
+
+-- lists of different lengths are not the same
+pub sorts_lengths : (ss ts : List SortId) → length ss ≢ length ts → sorts_eq ss ts ≡ false
+sorts_lengths [] [] differ = absurd (differ refl)
+sorts_lengths [] (t ∷ ts) differ = refl
+sorts_lengths (s ∷ ss) [] differ = refl
+sorts_lengths (s ∷ ss) (t ∷ ts) differ = ap (λ b. eqb s.0 t.0 && b) (sorts_lengths ss ts (λ e. differ (ap suc e))) ∙ and_no (eqb s.0 t.0)
+  where
+    and_no : (b : Bool) → (b && false) ≡ false
+    and_no true = refl
+    and_no false = refl
 
 -- ---- labels
 

@@ -17,7 +17,8 @@ use Rattle.lv_system.specs.TemporalTruth.{Lasso, end_of, holds, next_of}
 use Rattle.lv_system.specs.Vocabularies.{own_vocabulary}
 use Rattle.lv_temporal.specs.Once.{each_once}
 use Rattle.lv_temporal.specs.Renaming.{free_variables}
-use Rattle.lv_temporal.specs.Labels.{Key, key_eq, key_of, keys_of, label_atom, labels_of, number_of, reading}
+use Rattle.lv_temporal.specs.declared.key.Key.{Key}
+use Rattle.lv_temporal.specs.Labels.{key_eq, key_of, keys_of, label_atom, labels_of, number_of, reading}
 use Rattle.lv_temporal.specs.Samples.{link, link_atom, link_label, links, node, without_links}
 use Rattle.lv_temporal.proofs.HoldsAt.{held}
 use Rattle.lv_temporal.proofs.LabelsAt.{keys, read-All, read-Always, read-Or, whole, wholes}

@@ -7,7 +7,8 @@ use Rattle.lv_system.specs.declared.parts.Parts.{Parts}
 use Rattle.lv_system.specs.declared.parts.LabelDecl.{LabelDecl}
 use Rattle.lv_system.specs.declared.parts.WitnessDecl.{WitnessDecl}
 use Rattle.lv_temporal.specs.Once.{is_among}
-use Rattle.lv_temporal.specs.Labels.{Key, key_eq, keys_of, keys_of_labels, keys_of_witnesses, labels_of, number_of}
+use Rattle.lv_temporal.specs.declared.key.Key.{Key}
+use Rattle.lv_temporal.specs.Labels.{key_eq, keys_of, keys_of_labels, keys_of_witnesses, labels_of, number_of}
 use Rattle.lv_temporal.specs.TrueLabels.{no_key}
 use Rattle.lv_temporal.proofs.Once.{each_first, each_second, each_both, each_weaker, each_kept, once_has, placed}
 use Rattle.lv_temporal.proofs.Keys.{EachInside, each_inside}

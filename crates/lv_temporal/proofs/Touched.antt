@@ -17,7 +17,7 @@ use Rattle.lv_temporal.specs.Problem.{choice_at, choice_of, problem_of}
 use Rattle.lv_temporal.specs.Runs.{is_constant, is_constant_value, is_denoted, is_finite, is_passed, is_witness_value, touched}
 use Rattle.lv_temporal.specs.TrueLabels.{position_on, witness_at}
 use Rattle.lv_temporal.proofs.FitsMore.{own_constant_found}
-use Rattle.lv_temporal.proofs.Reading.{shown}
+use Rattle.lv_temporal.proofs.ReadingTruth.{shown}
 use Rattle.lv_temporal.proofs.Scoped.{is_sort_true}
 use Rattle.lv_temporal.proofs.Sameness.{sort_true}
 use Rattle.lv_temporal.proofs.Unrolled.{all_chosen, choice_at_is, chosen_below, position_bound, size_at, structure_at, unrolled_run}

@@ -14,7 +14,8 @@ use Rattle.lv_system.specs.declared.parts.Parts.{Parts}
 use Rattle.lv_system.specs.declared.parts.Fair.{Fair}
 use Rattle.lv_system.specs.Lasso.{IsFair, IsLassoRun, fair_at, no_fair}
 use Rattle.lv_system.specs.TemporalTruth.{Lasso, at_each_later, end_of, holds, next_of}
-use Rattle.lv_temporal.specs.Labels.{Key, labels_of, reading}
+use Rattle.lv_temporal.specs.declared.key.Key.{Key}
+use Rattle.lv_temporal.specs.Labels.{labels_of, reading}
 use Rattle.lv_temporal.specs.Problem.{Condition, fair_condition, justice_at, label_justice, label_justices, no_condition, problem_of, tuple_variables}
 use Rattle.lv_temporal.specs.Rounds.{IsRound}
 use Rattle.lv_temporal.specs.Runs.{Run, touched}

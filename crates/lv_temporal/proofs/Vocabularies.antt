@@ -14,7 +14,7 @@ use Rattle.lv_system.specs.declared.parts.WitnessDecl.{WitnessDecl}
 use Rattle.lv_system.specs.Vocabularies.{relation_sorts, constant_sort, relation_if, constant_if, relations_from, constants_from, any_symbol, witnesses_from, own_vocabulary, witness_vocabulary}
 use Rattle.lv_temporal.specs.TrueLabels.{no_witness, witness_at}
 use Rattle.lv_temporal.proofs.Fits.{Extends}
-use Rattle.lv_temporal.proofs.Reading.{HasNoLabel}
+use Rattle.lv_temporal.proofs.ReadingTruth.{HasNoLabel}
 
 -- no own symbol is the symbol
 abbrev pub NotOwn : Sym → Type 0

@@ -13,18 +13,20 @@ use Rattle.lv_formula.specs.Symbols.{sorts_eq}
 use Rattle.lv_system.specs.declared.parts.Parts.{Parts}
 use Rattle.lv_system.specs.declared.parts.LabelDecl.{LabelDecl}
 use Rattle.lv_system.specs.declared.parts.WitnessDecl.{WitnessDecl}
+use Rattle.lv_temporal.specs.declared.key.Key.{Key}
 use Rattle.lv_temporal.specs.Once.{each_once, place_of}
 use Rattle.lv_temporal.specs.Renaming.{free_variables, renamed, renumbered}
 use Rattle.lv_temporal.specs.Sameness.{temporal_eq}
 
--- What makes a label: the sorts of its variables, and the formula under its `always`, in which those variables
+-- A key is what makes a label: the sorts of its variables, and the formula under its `always`, in which those variables
 -- alone are free, the first of them outermost. No `eventually` stands in it.
-pub record Key : Type 0 where
-  pub sorts : List SortId
-  pub inner : Temporal
 
 abbrev pub key_eq : Key → Key → Bool
 key_eq a b = sorts_eq a.sorts b.sorts && temporal_eq a.inner b.inner
+
+-- what stands for a label where there is none
+abbrev pub no_key : Key
+no_key = record { sorts = []; inner = T.True }
 
 -- the label of `always f`, where f stands in the context and has no `eventually`: its free variables are numbered by
 -- first occurrence
@@ -72,6 +74,12 @@ plain t = (labelled t).plain
 
 abbrev pub keys_of : Temporal → List SortId → List Key
 keys_of t = (labelled t).keys
+
+abbrev pub plain_all : List Temporal → List Temporal
+plain_all fs = plain_each (map labelled fs)
+
+abbrev pub keys_of_all : List Temporal → List SortId → List Key
+keys_of_all fs = keys_each (map labelled fs)
 
 abbrev pub keys_of_labels : List LabelDecl → List Key
 keys_of_labels [] = []
@@ -125,3 +133,6 @@ reading_step table (Eventually r) = record { whole = T.Not (T.Always (T.Not r.wh
 -- `eventually f` the negated atom of the label of `always not f`
 abbrev pub reading : List Key → List SortId → Temporal → Formula
 reading table context t = (fold-Temporal Reading (reading_step table) t).read context
+
+abbrev pub readings : List Key → List Temporal → List SortId → List Formula
+readings table fs = read_each (map (fold-Temporal Reading (reading_step table)) fs)

@@ -13,7 +13,8 @@ use Rattle.lv_system.specs.declared.parts.Parts.{Parts}
 use Rattle.lv_system.specs.declared.parts.Fair.{Fair}
 use Rattle.lv_system.specs.declared.parts.WitnessDecl.{WitnessDecl}
 use Rattle.lv_system.specs.Vocabularies.{witness_vocabulary}
-use Rattle.lv_temporal.specs.Labels.{Key, labels_of, reading}
+use Rattle.lv_temporal.specs.declared.key.Key.{Key}
+use Rattle.lv_temporal.specs.Labels.{labels_of, reading}
 
 -- a formula over a tuple of elements of these sorts
 pub record Condition : Type 0 where

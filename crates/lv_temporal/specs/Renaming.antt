@@ -46,6 +46,9 @@ occurrences_step (Eventually f) = f
 abbrev pub occurrences_of : Temporal → List ℕ
 occurrences_of = fold-Temporal (List ℕ) occurrences_step
 
+abbrev pub occurrences_of_all : List Temporal → List ℕ
+occurrences_of_all fs = joined (map occurrences_of fs)
+
 -- the free variables in order of first occurrence
 abbrev pub free_variables : Temporal → List ℕ
 free_variables f = each_once eqb (occurrences_of f)
@@ -81,6 +84,9 @@ rename_step (Eventually f) to = T.Eventually (f to)
 -- the formula with each free variable renamed
 abbrev pub renamed : Temporal → (ℕ → ℕ) → Temporal
 renamed = fold-Temporal ((ℕ → ℕ) → Temporal) rename_step
+
+abbrev pub renamed_all : List Temporal → (ℕ → ℕ) → List Temporal
+renamed_all fs = rename_each (map renamed fs)
 
 -- The variable that stands for v where the listed variables alone are free, the first of them outermost.
 -- All others would go above, so that no two variables become one.

@@ -6,14 +6,13 @@ use Rattle.lv_system.specs.declared.parts.Parts.{Parts}
 use Rattle.lv_system.specs.declared.parts.WitnessDecl.{WitnessDecl}
 use Rattle.lv_system.specs.Lasso.{IsFair, IsLassoRun, Stop, lasso_of}
 use Rattle.lv_system.specs.TemporalTruth.{Lasso, holds, next_of}
-use Rattle.lv_temporal.specs.Labels.{Key, labels_of}
+use Rattle.lv_temporal.specs.declared.key.Key.{Key}
+use Rattle.lv_temporal.specs.Labels.{labels_of}
+pub use Rattle.lv_temporal.specs.Labels.{no_key}
 use Rattle.lv_temporal.specs.Positions.{Position, run_of}
 use Rattle.lv_temporal.specs.Problem.{problem_of}
 use Rattle.lv_temporal.specs.Rounds.{IsRound}
 use Rattle.lv_temporal.specs.Runs.{IsLabelledRun}
-
-abbrev pub no_key : Key
-no_key = record { sorts = []; inner = True }
 
 abbrev pub key_at : Parts → ℕ → Key
 key_at p l = get_or (labels_of p) l no_key

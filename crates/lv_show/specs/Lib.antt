@@ -1,0 +1,7 @@
+pub mod Formulas
+pub mod Words
+pub mod Systems
+pub mod Ranges
+pub mod Tables
+pub mod Layout
+pub mod Laws

@@ -1,0 +1,118 @@
+//! Texts of systems, formulas and symbols.
+ghost use Rattle.std.specs.Prelude.{◌≡◌, ◌++◌, true, List, codes, IfOk, OnOk, IsTrue};
+ghost use Rattle.lv_tree.specs.declared.tree.Tree.{Tree};
+ghost use Rattle.lv_tree.specs.Spelling.{fits_in, all_fit_in};
+ghost use Rattle.lv_tree.specs.Writing.{written};
+ghost use Rattle.lv_temporal.specs.Table.{table_labels};
+ghost use Rattle.lv_grammar.specs.Words.{symbol_word};
+ghost use Rattle.lv_grammar.specs.Spelling.{SpellsSystem, Spells};
+ghost use Rattle.lv_show.specs.Formulas.{shown_formula};
+ghost use Rattle.lv_show.specs.Words.{invariants_have_words};
+ghost use Rattle.lv_show.specs.Systems.{shown_items};
+ghost use Rattle.lv_show.specs.Layout.{in_lines, shown_text};
+
+use crate::formulas::formula;
+use crate::items::items;
+use crate::words::{Words, symbol_word};
+use lv_formula::{Formula, Memory, Sym};
+use lv_system::System;
+use lv_temporal::{LabelTable, labels_of};
+use lv_tree::{List, Text, Tree, write_tree};
+use std::alloc::Global;
+
+/// The tree on one line, with this crate's error.
+fn line(alloc: Global, tree: &Tree) -> Result<List<u8>, Memory>
+    requires { IsTrue (fits_in 64 tree.now) }
+    ensures { IfOk result (λ bytes. bytes ≡ written tree.now) }
+{
+    match write_tree(alloc, tree) {
+        Ok(line) => Ok(line),
+        Err(_) => Err(Memory),
+    }
+}
+
+/// Adds the lines of the trees, each behind a newline and two spaces.
+#[tactic(auto, using(crate::proofs::LayoutLaw::next_fits))]
+fn push_lines(alloc: Global, text: &mut Vec<u8>, trees: &[Tree]) -> Result<(), Memory>
+    requires { IsTrue (all_fit_in 64 trees.now) }
+    ensures { OnOk result (text.new.items ≡ text.old.items ++ in_lines trees.now) }
+{
+    for tree in trees {
+        let line = line(alloc, tree)?;
+        text.extend_from_slice(b"\n  ")?;
+        text.extend_from_slice(line.as_slice())?;
+    }
+    Ok(())
+}
+
+/// The text of a system: its name on the first line, then each item on a line of its own behind two
+/// spaces, `)` directly behind the last one, and a newline. Variables are `X0`, `X1` and so on, by the
+/// number of variables in whose scope they stand. The only error is want of memory.
+///
+/// The caller sees to it that each symbol of the invariants has a word. That is so of every system that
+/// some text spells.
+
+pub fn show(alloc: Global, system: &System) -> Result<List<u8>, Memory>
+    requires words { invariants_have_words system.now system.now.invariants ≡ true }
+    ensures text { IfOk result (λ bytes. bytes ≡ shown_text system.now) }
+
+    // Where some tree spells the system, the text does.
+    ensures again { (t : Tree) → SpellsSystem system.now t → IfOk result (λ bytes. Spells bytes system.now) }
+{
+    let parts = system.parts();
+    let table = labels_of(alloc, system)?;
+    let words = Words {
+        parts,
+        labels: table.labels.as_slice(),
+    };
+    let trees = items(alloc, &words)?;
+    let mut text = Vec::from_slice(alloc, b"(system ")?;
+    text.extend_from_slice(parts.name.as_slice())?;
+    push_lines(alloc, &mut text, trees.as_slice())?;
+    text.extend_from_slice(b")\n")?;
+    Ok(List::from_vec(text))
+}
+
+/// A formula of the system on one line. It stands in the scope of `context` variables, of which the
+/// outermost is shown as `X0`. The only error is want of memory.
+///
+/// The caller sees to it that the table is the system's, that each symbol and sort of the formula has a
+/// word, and that lists in the formula nest at most 64 deep.
+pub fn show_formula(
+    alloc: Global,
+    f: &Formula,
+    system: &System,
+    table: &LabelTable,
+    context: u32,
+) -> Result<List<u8>, Memory>
+    requires table { table.now.labels ≡ table_labels system.now }
+    requires written { IsTrue (fits_in 64 (shown_formula system.now f.now context)) }
+    ensures { IfOk result (λ bytes. bytes ≡ written (shown_formula system.now f.now context)) }
+{
+    let words = Words {
+        parts: system.parts(),
+        labels: table.labels.as_slice(),
+    };
+    let tree = formula(alloc, f, &words, context as u64)?;
+    line(alloc, &tree)
+}
+
+/// The word of a symbol. A label without a declared name is `label.` and its number. The only error is
+/// want of memory.
+///
+/// The caller sees to it that the table is the system's.
+pub fn show_sym(
+    alloc: Global,
+    sym: Sym,
+    system: &System,
+    table: &LabelTable,
+) -> Result<Text, Memory>
+    requires table { table.now.labels ≡ table_labels system.now }
+    ensures { IfOk result (λ word. word ≡ symbol_word system.now sym) }
+{
+    let words = Words {
+        parts: system.parts(),
+        labels: table.labels.as_slice(),
+    };
+    symbol_word(alloc, sym, &words)
+}

@@ -1,0 +1,11 @@
+pub mod Behind
+pub mod Formulas
+pub mod Given
+pub mod Items
+pub mod Labelling
+pub mod Names
+pub mod Parameters
+pub mod Reader
+pub mod Scopes
+pub mod Seen
+pub mod Words
