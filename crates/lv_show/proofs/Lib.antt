@@ -11,7 +11,6 @@ pub mod FormulaFits
 pub mod SymbolWords
 pub mod VocabularyWords
 pub mod SpokenParts
-pub mod RangeWords
 pub mod ItemFits
 pub mod TextLaw
 pub mod Elements

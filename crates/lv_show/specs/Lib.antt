@@ -1,7 +1,6 @@
 pub mod Formulas
 pub mod Words
 pub mod Systems
-pub mod Ranges
 pub mod Tables
 pub mod Layout
 pub mod Laws
