@@ -1,7 +1,7 @@
 -- Which trees spell which terms, formulas, items and systems.
 --
--- Words are looked up in the whole system, and sorts, scopes of names and limits are asked of the system that is spelled
--- (see Spelling). So a rule says what a construct is written like, and nothing else.
+-- Words are looked up in the whole system, and sorts, names and limits are asked of the system that is spelled (see Spelling). So a
+-- rule says what a construct is written like, and asks of variables alone that they are new, as a system has no names for them.
 use Rattle.std.specs.Prelude.{◌≡◌, ℕ, Bool, true, false, List, [], ◌∷◌, ◌++◌, map, get_or, reverse, codes, Option, Some, None, slice_get}
 use Rattle.lv_tree.specs.declared.tree.Tree.{Tree}
 use Rattle.lv_formula.specs.declared.symbols.SortId.{SortId}
@@ -208,7 +208,7 @@ pub record IsFair (p : Parts) (fair : Fair) (t : Tree) : Type 0 where
   pub parameters : AreParameters p fair.params variables params
   pub formula : IsFormula p (reverse variables) (lifted fair.condition) a
 
--- (label NAME (VAR SORT ..) T)
+-- (label NAME (VAR SORT ..) T); that T is `(always ..)` is asked of the system
 pub record IsLabel (p : Parts) (label : LabelDecl) (t : Tree) : Type 0 where
   pub h : Tree
   pub n : Tree

@@ -55,7 +55,8 @@ label_shapes name n (k ∷ ks) = record { sym = name n; sorts = k.sorts } ∷ la
 abbrev pub label_relations : Parts → List RelShape
 label_relations p = label_shapes Label 0 (labels_of p) ++ (label_shapes Due (length p.fairs) (labels_of p) ++ label_shapes CopyLabel 0 (labels_of p))
 
--- what invariants may use: also the labels, the due set of each label's condition, and the copy of each label
+-- the symbols of invariants with their sorts: also the labels, the due set of each label's condition, and the copy of each label.
+-- Which of them texts may use is `is_spoken`.
 abbrev pub spoken_vocabulary : Parts → Vocabulary
 spoken_vocabulary p = record {
   sorts = (invariant_vocabulary p).sorts;

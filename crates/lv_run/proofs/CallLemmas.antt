@@ -1,33 +1,94 @@
 -- What follows from the text that was composed and from the answer that came.
-use Rattle.std.proofs.Common.{◌≡◌, ℕ, ◌<◌, ◌≤◌, List, length, Bool, true, false, Option, Some, None, sym, ap, subst, ◌∙◌, arith}
+use Rattle.std.proofs.Common.{◌≡◌, ℕ, ◌<◌, ◌≤◌, List, length, Bool, true, false, Option, Some, None, refl, sym, ap, subst, ◌∙◌, arith}
 use Rattle.std.specs.Prelude.{IfSome}
 use Rattle.std.specs.declared.string.String.{String}
 use Rattle.std.specs.declared.alloc.Global.{Global}
-use Rattle.lv_tree.proofs.Reading.{at_most_one}
+use Rattle.std.specs.Io.KnownBytes.{IsAtEnd}
 use Rattle.lv_system.specs.declared.parts.Parts.{Parts}
+use Rattle.lv_run.specs.declared.mode.Mode.{Mode}
+use Rattle.lv_run.specs.declared.mode.Mode.TheVariants.{Prove, Show}
 use Rattle.lv_run.specs.declared.detail.Detail.{Detail}
 use Rattle.lv_run.specs.declared.detail.Detail.TheVariants as D
 use Rattle.lv_run.specs.Obligations.{count, obligation_at, IsValid, AreAllValid, IsFirstBroken}
-use Rattle.lv_run.specs.Grammar.{system_of}
-use Rattle.lv_run.specs.Spelling.{Spells, HasForm}
-use Rattle.lv_run.specs.Answers.{IsUnsupported, IsProved, IsCounter}
-use Rattle.lv_run.specs.Calls.{IsProve, AreRead, IsComposed, IsRead, HasReason, IsProofOrFault, IsCounterOrFault, IsUnsupportedOrFault, IsTooLongOrFault, IsUsageOrFault}
+use Rattle.lv_run.specs.Form.{has_form}
+use Rattle.lv_run.specs.Answers.{Reading, NoTree, NoSystem, OneSystem, Reads, IsVerdict, IsAnswer, IsAnswered}
+use Rattle.lv_run.specs.Calls.{AskFor, AreCommand, AreNoCommand, AreRead, IsReadAnswer, IsComposed, IsRead, HasAnswer, IsCaused, HasReason, IsLeft, IsOrFault, IsCounterAt, IsUsageOrFault}
+use Rattle.lv_run.proofs.ReadingLemmas.{one_reading}
 
--- ---- one system
+-- ---- which answers a text has
 
-same_some : {A : Type 0} (x y : A) → Some x ≡ Some y → x ≡ y
-same_some x y e = cc
+-- the answers that are given to a text which was read
+abbrev to_text : Detail → Bool
+to_text (D.Proved n) = true
+to_text (D.Counter i vs) = true
+to_text D.Unsupported = true
+to_text D.Shown = true
+to_text (D.TreeRefused f) = true
+to_text (D.SyntaxRefused f) = true
+to_text D.Usage = false
+to_text D.TooLong = false
+to_text D.ReadFault = false
+to_text D.WriteFault = false
+to_text D.MemoryWanting = false
 
--- a text spells at most one system
-pub one_system : (bytes : List ℕ) (p q : Parts) → Spells bytes p → Spells bytes q → p ≡ q
-one_system bytes p q a b =
-    let t : a.tree ≡ b.tree = at_most_one bytes a.tree b.tree a.spelled b.spelled in
-    same_some p q (sym a.said ∙ (ap system_of t ∙ b.said))
+verdict_to_text : (p : Parts) (d : Detail) → IsVerdict p d → to_text d ≡ true
+verdict_to_text p (D.Proved n) v = refl
+verdict_to_text p (D.Counter i vs) v = refl
+verdict_to_text p D.Unsupported v = refl
+verdict_to_text p D.Shown v = absurd v
+verdict_to_text p (D.TreeRefused f) v = absurd v
+verdict_to_text p (D.SyntaxRefused f) v = absurd v
+verdict_to_text p D.Usage v = absurd v
+verdict_to_text p D.TooLong v = absurd v
+verdict_to_text p D.ReadFault v = absurd v
+verdict_to_text p D.WriteFault v = absurd v
+verdict_to_text p D.MemoryWanting v = absurd v
 
--- what breaks an obligation shows that it isn't valid
-invalid : (p : Parts) (index : ℕ) (values : List Bool) → IsFirstBroken p index values → IsValid p (obligation_at p index) → ⊥
-invalid p index values b v =
-    let yes-it-is : true ≡ false = sym b.breaks.broken ∙ v.none values b.breaks.one_each in cc
+answer_to_text : (mode : Mode) (r : Reading) (d : Detail) → IsAnswer mode r d → to_text d ≡ true
+answer_to_text mode (NoTree f) d a = rw a refl
+answer_to_text mode (NoSystem f) d a = rw a refl
+answer_to_text Prove (OneSystem p) d a = verdict_to_text p d a
+answer_to_text Show (OneSystem p) d a = rw a refl
+
+untrue : false ≡ true → ⊥
+untrue e = cc
+
+-- an answer to a text is one that may be composed
+pub composed : (words : List (String Global)) (left : Option (List ℕ)) (mode : Mode) (bytes : List ℕ) (d : Detail) (out : List ℕ)
+    → AskFor mode words → AreRead left bytes → IsAnswered mode bytes d out → IsComposed words left d out
+composed words left mode bytes d out asked read a = by d (answer_to_text mode a.reading d a.is) (record { mode = mode; asked = asked; bytes = bytes; read = read; answered = a }) where
+  by : (d : Detail) → to_text d ≡ true → IsReadAnswer words left d out → IsComposed words left d out
+  by (D.Proved n) e i = i
+  by (D.Counter j vs) e i = i
+  by D.Unsupported e i = i
+  by D.Shown e i = i
+  by (D.TreeRefused f) e i = i
+  by (D.SyntaxRefused f) e i = i
+  by D.Usage e i = absurd (untrue e)
+  by D.TooLong e i = absurd (untrue e)
+  by D.ReadFault e i = absurd (untrue e)
+  by D.WriteFault e i = absurd (untrue e)
+  by D.MemoryWanting e i = absurd (untrue e)
+
+-- an answer to a text is no fault of reading
+pub no_read_fault : (mode : Mode) (bytes : List ℕ) (d : Detail) (out : List ℕ) → IsAnswered mode bytes d out → d ≡ D.ReadFault → ⊥
+no_read_fault mode bytes d out a e = untrue (subst (λ x. to_text x ≡ true) e (answer_to_text mode a.reading d a.is))
+
+-- a text that is answered was read to its end
+pub left_at_end : (mode : Mode) (bytes : List ℕ) (d : Detail) (out : List ℕ) (before now : Option (List ℕ)) → IsAnswered mode bytes d out → IsAtEnd now → IsLeft d before now
+left_at_end mode bytes d out before now a end = by d (answer_to_text mode a.reading d a.is) where
+  by : (d : Detail) → to_text d ≡ true → IsLeft d before now
+  by (D.Proved n) e = end
+  by (D.Counter j vs) e = end
+  by D.Unsupported e = end
+  by D.Shown e = end
+  by (D.TreeRefused f) e = end
+  by (D.SyntaxRefused f) e = end
+  by D.Usage e = absurd (untrue e)
+  by D.TooLong e = absurd (untrue e)
+  by D.ReadFault e = absurd (untrue e)
+  by D.WriteFault e = absurd (untrue e)
+  by D.MemoryWanting e = absurd (untrue e)
 
 -- ---- why an answer comes
 
@@ -35,15 +96,25 @@ told_read : (Is : List ℕ → Type 0) (left : Option (List ℕ)) (bytes : List 
 told_read Is None bytes r i = tt
 told_read Is (Some told) bytes r i = record { few = subst (λ b. length b ≤ 1048576) (sym r.all) r.few; is = subst Is (sym r.all) i }
 
-pub reason : (words : List (String Global)) (left : Option (List ℕ)) (d : Detail) (out err : List ℕ) → IsComposed words left d out err → HasReason words left d
-reason words left (D.Proved n) out err c = (c.0, told_read (λ bytes. IsProved bytes n) left c.1.bytes c.1.read c.1.answered.0)
-reason words left (D.Counter i vs) out err c = (c.0, told_read (λ bytes. (text : List ℕ) × IsCounter bytes i vs text) left c.1.bytes c.1.read (out, c.1.answered.0))
-reason words left D.Unsupported out err c = (c.0, told_read IsUnsupported left c.1.bytes c.1.read c.1.answered.0)
-reason words left D.Usage out err c = c.0
-reason words left D.TooLong out err c = (c.0, c.1)
-reason words left D.ReadFault out err c = c.0
-reason words left D.WriteFault out err c = tt
-reason words left D.MemoryWanting out err c = tt
+caused : (words : List (String Global)) (left : Option (List ℕ)) (d : Detail) (out : List ℕ) → IsReadAnswer words left d out → IsCaused words left d
+caused words left d out a = record {
+  mode = a.mode;
+  asked = a.asked;
+  text = told_read (HasAnswer a.mode d) left a.bytes a.read (record { reading = a.answered.reading; reads = a.answered.reads; is = a.answered.is });
+}
+
+pub reason : (words : List (String Global)) (left : Option (List ℕ)) (d : Detail) (out : List ℕ) → IsComposed words left d out → HasReason words left d
+reason words left (D.Proved n) out c = caused words left _ out c
+reason words left (D.Counter i vs) out c = caused words left _ out c
+reason words left D.Unsupported out c = caused words left _ out c
+reason words left D.Shown out c = caused words left _ out c
+reason words left (D.TreeRefused f) out c = caused words left _ out c
+reason words left (D.SyntaxRefused f) out c = caused words left _ out c
+reason words left D.Usage out c = c.0
+reason words left D.TooLong out c = (c.0, c.1)
+reason words left D.ReadFault out c = c.0
+reason words left D.WriteFault out c = tt
+reason words left D.MemoryWanting out c = tt
 
 -- ---- no other answer comes
 
@@ -51,55 +122,85 @@ reason words left D.MemoryWanting out err c = tt
 at_bytes : (Is : List ℕ → Type 0) (left : Option (List ℕ)) (bytes : List ℕ) → left ≡ Some bytes → IfSome left Is → Is bytes
 at_bytes Is left bytes e i = rw e at i
 
-pub only_usage : (words : List (String Global)) (left : Option (List ℕ)) (d : Detail) → HasReason words left d → (IsProve words → ⊥) → IsUsageOrFault d
-only_usage words left (D.Proved n) r other = absurd (other r.0)
-only_usage words left (D.Counter i vs) r other = absurd (other r.0)
-only_usage words left D.Unsupported r other = absurd (other r.0)
+asked_for_one : (words : List (String Global)) (mode : Mode) → AskFor mode words → AreNoCommand words → ⊥
+asked_for_one words mode a b = let bad : Some mode ≡ None = sym a ∙ b in cc
+
+same_mode : (words : List (String Global)) (m n : Mode) → AskFor m words → AskFor n words → m ≡ n
+same_mode words m n a b = let same : Some m ≡ Some n = sym a ∙ b in cc
+
+pub only_usage : (words : List (String Global)) (left : Option (List ℕ)) (d : Detail) → HasReason words left d → AreNoCommand words → IsUsageOrFault d
+only_usage words left (D.Proved n) r other = absurd (asked_for_one words r.mode r.asked other)
+only_usage words left (D.Counter i vs) r other = absurd (asked_for_one words r.mode r.asked other)
+only_usage words left D.Unsupported r other = absurd (asked_for_one words r.mode r.asked other)
+only_usage words left D.Shown r other = absurd (asked_for_one words r.mode r.asked other)
+only_usage words left (D.TreeRefused f) r other = absurd (asked_for_one words r.mode r.asked other)
+only_usage words left (D.SyntaxRefused f) r other = absurd (asked_for_one words r.mode r.asked other)
 only_usage words left D.Usage r other = tt
-only_usage words left D.TooLong r other = absurd (other r.0)
-only_usage words left D.ReadFault r other = absurd (other r)
+only_usage words left D.TooLong r other = absurd (asked_for_one words r.0.mode r.0.asked other)
+only_usage words left D.ReadFault r other = absurd (asked_for_one words r.mode r.asked other)
 only_usage words left D.WriteFault r other = tt
 only_usage words left D.MemoryWanting r other = tt
 
+read_is_few : (words : List (String Global)) (left : Option (List ℕ)) (d : Detail) (bytes : List ℕ) → IsCaused words left d → left ≡ Some bytes → 1048576 < length bytes → ⊥
+read_is_few words left d bytes r e long = let few : length bytes ≤ 1048576 = (at_bytes _ left bytes e r.text).few in omega arith
+
 pub only_too_long : (words : List (String Global)) (left : Option (List ℕ)) (d : Detail) → HasReason words left d
-    → (bytes : List ℕ) → IsProve words → left ≡ Some bytes → 1048576 < length bytes → IsTooLongOrFault d
-only_too_long words left (D.Proved n) r bytes w e long = let a = at_bytes _ left bytes e r.1 in let few : length bytes ≤ 1048576 = a.few in absurd (omega arith)
-only_too_long words left (D.Counter i vs) r bytes w e long = let a = at_bytes _ left bytes e r.1 in let few : length bytes ≤ 1048576 = a.few in absurd (omega arith)
-only_too_long words left D.Unsupported r bytes w e long = let a = at_bytes _ left bytes e r.1 in let few : length bytes ≤ 1048576 = a.few in absurd (omega arith)
-only_too_long words left D.Usage r bytes w e long = absurd (r w)
-only_too_long words left D.TooLong r bytes w e long = tt
+    → (bytes : List ℕ) → AreCommand words → left ≡ Some bytes → 1048576 < length bytes → IsOrFault (λ answer. answer ≡ D.TooLong) d
+only_too_long words left (D.Proved n) r bytes w e long = absurd (read_is_few words left _ bytes r e long)
+only_too_long words left (D.Counter i vs) r bytes w e long = absurd (read_is_few words left _ bytes r e long)
+only_too_long words left D.Unsupported r bytes w e long = absurd (read_is_few words left _ bytes r e long)
+only_too_long words left D.Shown r bytes w e long = absurd (read_is_few words left _ bytes r e long)
+only_too_long words left (D.TreeRefused f) r bytes w e long = absurd (read_is_few words left _ bytes r e long)
+only_too_long words left (D.SyntaxRefused f) r bytes w e long = absurd (read_is_few words left _ bytes r e long)
+only_too_long words left D.Usage r bytes w e long = absurd (asked_for_one words w.mode w.asked r)
+only_too_long words left D.TooLong r bytes w e long = refl
 only_too_long words left D.ReadFault r bytes w e long = tt
 only_too_long words left D.WriteFault r bytes w e long = tt
 only_too_long words left D.MemoryWanting r bytes w e long = tt
 
-pub only_unsupported : (words : List (String Global)) (left : Option (List ℕ)) (d : Detail) → HasReason words left d
-    → (bytes : List ℕ) → IsProve words → left ≡ Some bytes → length bytes ≤ 1048576 → IsUnsupported bytes → IsUnsupportedOrFault d
-only_unsupported words left (D.Proved n) r bytes w e few none = let a = (at_bytes _ left bytes e r.1).is in absurd (none.none a.system a.form)
-only_unsupported words left (D.Counter i vs) r bytes w e few none = let a = (at_bytes _ left bytes e r.1).is in absurd (none.none a.1.system a.1.form)
-only_unsupported words left D.Unsupported r bytes w e few none = tt
-only_unsupported words left D.Usage r bytes w e few none = absurd (r w)
-only_unsupported words left D.TooLong r bytes w e few none = let long : 1048576 < length bytes = at_bytes _ left bytes e r.1 in absurd (omega arith)
-only_unsupported words left D.ReadFault r bytes w e few none = tt
-only_unsupported words left D.WriteFault r bytes w e few none = tt
-only_unsupported words left D.MemoryWanting r bytes w e few none = tt
+-- the answer that has a cause is one of what the bytes come to
+has_answer : (words : List (String Global)) (left : Option (List ℕ)) (d : Detail) (mode : Mode) (bytes : List ℕ) (reading : Reading) → IsCaused words left d
+    → AskFor mode words → left ≡ Some bytes → Reads bytes reading → IsAnswer mode reading d
+has_answer words left d mode bytes reading r asked e reads =
+    let a = (at_bytes _ left bytes e r.text).is in
+    subst (λ m. IsAnswer m reading d) (same_mode words r.mode mode r.asked asked)
+    (subst (λ x. IsAnswer r.mode x d) (one_reading bytes a.reading reading a.reads reads) a.is)
 
-pub only_proved : (words : List (String Global)) (left : Option (List ℕ)) (d : Detail) → HasReason words left d
-    → (bytes : List ℕ) (p : Parts) → IsProve words → left ≡ Some bytes → length bytes ≤ 1048576 → HasForm bytes p → AreAllValid p → IsProofOrFault (count p) d
-only_proved words left (D.Proved n) r bytes p w e few form valid =
-    let a = (at_bytes _ left bytes e r.1).is in
-    let same = one_system bytes a.system p a.form.spells form.spells in
-    a.number ∙ ap count same
-only_proved words left (D.Counter i vs) r bytes p w e few form valid =
-    let a = (at_bytes _ left bytes e r.1).is.1 in
-    let same = one_system bytes a.system p a.form.spells form.spells in
-    let broken = subst (λ q. IsFirstBroken q i vs) same a.broken in
-    absurd (invalid p i vs broken (valid i broken.in_range))
-only_proved words left D.Unsupported r bytes p w e few form valid = let a = (at_bytes _ left bytes e r.1).is in absurd (a.none p form)
-only_proved words left D.Usage r bytes p w e few form valid = absurd (r w)
-only_proved words left D.TooLong r bytes p w e few form valid = let long : 1048576 < length bytes = at_bytes _ left bytes e r.1 in absurd (omega arith)
-only_proved words left D.ReadFault r bytes p w e few form valid = tt
-only_proved words left D.WriteFault r bytes p w e few form valid = tt
-only_proved words left D.MemoryWanting r bytes p w e few form valid = tt
+pub only_answer : (words : List (String Global)) (left : Option (List ℕ)) (d : Detail) → HasReason words left d
+    → (mode : Mode) (bytes : List ℕ) (reading : Reading) → AskFor mode words → left ≡ Some bytes → length bytes ≤ 1048576 → Reads bytes reading
+    → IsOrFault (IsAnswer mode reading) d
+only_answer words left (D.Proved n) r mode bytes reading w e few reads = has_answer words left _ mode bytes reading r w e reads
+only_answer words left (D.Counter i vs) r mode bytes reading w e few reads = has_answer words left _ mode bytes reading r w e reads
+only_answer words left D.Unsupported r mode bytes reading w e few reads = has_answer words left _ mode bytes reading r w e reads
+only_answer words left D.Shown r mode bytes reading w e few reads = has_answer words left _ mode bytes reading r w e reads
+only_answer words left (D.TreeRefused f) r mode bytes reading w e few reads = has_answer words left _ mode bytes reading r w e reads
+only_answer words left (D.SyntaxRefused f) r mode bytes reading w e few reads = has_answer words left _ mode bytes reading r w e reads
+only_answer words left D.Usage r mode bytes reading w e few reads = absurd (asked_for_one words mode w r)
+only_answer words left D.TooLong r mode bytes reading w e few reads = let long : 1048576 < length bytes = at_bytes _ left bytes e r.1 in absurd (omega arith)
+only_answer words left D.ReadFault r mode bytes reading w e few reads = tt
+only_answer words left D.WriteFault r mode bytes reading w e few reads = tt
+only_answer words left D.MemoryWanting r mode bytes reading w e few reads = tt
+
+-- what breaks an obligation shows that it isn't valid
+invalid : (p : Parts) (index : ℕ) (values : List Bool) → IsFirstBroken p index values → IsValid p (obligation_at p index) → ⊥
+invalid p index values b v =
+    let yes-it-is : true ≡ false = sym b.breaks.broken ∙ v.none values b.breaks.one_each in cc
+
+no_form : (p : Parts) → has_form p ≡ true → has_form p ≡ false → ⊥
+no_form p a b = let bad : true ≡ false = sym a ∙ b in cc
+
+pub only_proved : (p : Parts) (d : Detail) → IsOrFault (IsAnswer Prove (OneSystem p)) d → has_form p ≡ true → AreAllValid p → IsOrFault (λ answer. answer ≡ D.Proved (count p)) d
+only_proved p (D.Proved n) a form valid = ap D.Proved a.2
+only_proved p (D.Counter i vs) a form valid = absurd (invalid p i vs a.1 (valid i a.1.in_range))
+only_proved p D.Unsupported a form valid = absurd (no_form p form a)
+only_proved p D.Shown a form valid = absurd a
+only_proved p (D.TreeRefused f) a form valid = absurd a
+only_proved p (D.SyntaxRefused f) a form valid = absurd a
+only_proved p D.Usage a form valid = absurd a
+only_proved p D.TooLong a form valid = absurd a
+only_proved p D.ReadFault a form valid = tt
+only_proved p D.WriteFault a form valid = tt
+only_proved p D.MemoryWanting a form valid = tt
 
 -- of two obligations that are the first broken one, neither comes before the other
 not_before : (p : Parts) (i j : ℕ) (us vs : List Bool) → IsFirstBroken p i us → IsFirstBroken p j vs → i < j → ⊥
@@ -111,21 +212,16 @@ first_is_one p i j us vs a b =
     let other : j < i → ⊥ = not_before p j i vs us b a in
     omega (arith, one, other)
 
-pub only_counter : (words : List (String Global)) (left : Option (List ℕ)) (d : Detail) → HasReason words left d
-    → (bytes : List ℕ) (p : Parts) (index : ℕ) (values : List Bool) → IsProve words → left ≡ Some bytes → length bytes ≤ 1048576 → HasForm bytes p
-    → IsFirstBroken p index values → IsCounterOrFault index d
-only_counter words left (D.Proved n) r bytes p index values w e few form broken =
-    let a = (at_bytes _ left bytes e r.1).is in
-    let same = one_system bytes a.system p a.form.spells form.spells in
-    let valid = subst AreAllValid same a.valid in
-    absurd (invalid p index values broken (valid index broken.in_range))
-only_counter words left (D.Counter i vs) r bytes p index values w e few form broken =
-    let a = (at_bytes _ left bytes e r.1).is.1 in
-    let same = one_system bytes a.system p a.form.spells form.spells in
-    first_is_one p i index vs values (subst (λ q. IsFirstBroken q i vs) same a.broken) broken
-only_counter words left D.Unsupported r bytes p index values w e few form broken = let a = (at_bytes _ left bytes e r.1).is in absurd (a.none p form)
-only_counter words left D.Usage r bytes p index values w e few form broken = absurd (r w)
-only_counter words left D.TooLong r bytes p index values w e few form broken = let long : 1048576 < length bytes = at_bytes _ left bytes e r.1 in absurd (omega arith)
-only_counter words left D.ReadFault r bytes p index values w e few form broken = tt
-only_counter words left D.WriteFault r bytes p index values w e few form broken = tt
-only_counter words left D.MemoryWanting r bytes p index values w e few form broken = tt
+pub only_counter : (p : Parts) (d : Detail) (index : ℕ) (values : List Bool) → IsOrFault (IsAnswer Prove (OneSystem p)) d → has_form p ≡ true → IsFirstBroken p index values
+    → IsOrFault (IsCounterAt index) d
+only_counter p (D.Proved n) index values a form broken = absurd (invalid p index values broken (a.1 index broken.in_range))
+only_counter p (D.Counter i vs) index values a form broken = first_is_one p i index vs values a.1 broken
+only_counter p D.Unsupported index values a form broken = absurd (no_form p form a)
+only_counter p D.Shown index values a form broken = absurd a
+only_counter p (D.TreeRefused f) index values a form broken = absurd a
+only_counter p (D.SyntaxRefused f) index values a form broken = absurd a
+only_counter p D.Usage index values a form broken = absurd a
+only_counter p D.TooLong index values a form broken = absurd a
+only_counter p D.ReadFault index values a form broken = tt
+only_counter p D.WriteFault index values a form broken = tt
+only_counter p D.MemoryWanting index values a form broken = tt

@@ -8,8 +8,12 @@ use Rattle.lv_edge.specs.Streams.{Grows, GrowsByPart}
 use Rattle.lv_system.specs.declared.parts.Parts.{Parts}
 use Rattle.lv_run.specs.declared.detail.Detail.{Detail}
 use Rattle.lv_run.specs.declared.detail.Detail.TheVariants as D
+use Rattle.lv_show.specs.Layout.{shown_text}
+use Rattle.lv_run.specs.declared.mode.Mode.{Mode}
+use Rattle.lv_run.specs.declared.mode.Mode.TheVariants.{Prove, Show}
 use Rattle.lv_run.specs.Texts.{counter_text}
-use Rattle.lv_run.specs.Calls.{AreRead, IsComposed, IsDelivered, HasReason, BeginsWithP, HasProof}
+use Rattle.lv_run.specs.Answers.{Reading, NoTree, NoSystem, OneSystem, Reads, IsAnswer, report_of, system_report}
+use Rattle.lv_run.specs.Calls.{AreRead, IsReadAnswer, IsComposed, IsDelivered, HasReason, BeginsWithP, HasProof, told_of}
 use Rattle.lv_run.proofs.CallLemmas.{reason}
 
 abbrev tail : List ℕ → List ℕ
@@ -24,8 +28,14 @@ pub record StartsWithP (text : List ℕ) : Type 0 where
 counter_starts : (p : Parts) (index : ℕ) (values : List Bool) → counter_text p index values ≡ 99 ∷ tail (counter_text p index values)
 counter_starts p index values = refl
 
-other_byte : (xs ys : List ℕ) → 99 ∷ xs ≡ 112 ∷ ys → ⊥
-other_byte xs ys e = let f : ◌≡◌ {A = ℕ} 99 112 = cc in omega (arith, f)
+shown_starts : (p : Parts) → shown_text p ≡ 40 ∷ tail (shown_text p)
+shown_starts p = refl
+
+letter_c : (xs ys : List ℕ) → 99 ∷ xs ≡ 112 ∷ ys → ⊥
+letter_c xs ys e = let f : ◌≡◌ {A = ℕ} 99 112 = cc in omega (arith, f)
+
+bracket : (xs ys : List ℕ) → 40 ∷ xs ≡ 112 ∷ ys → ⊥
+bracket xs ys e = let f : ◌≡◌ {A = ℕ} 40 112 = cc in omega (arith, f)
 
 nothing : (ys : List ℕ) → [] ≡ 112 ∷ ys → ⊥
 nothing ys e = cc
@@ -34,18 +44,45 @@ told_proof : (left : Option (List ℕ)) (bytes : List ℕ) → AreRead left byte
 told_proof None bytes r h = tt
 told_proof (Some told) bytes r h = subst HasProof (sym r.all) h
 
-of_composed : (words : List (String Global)) (left : Option (List ℕ)) (d : Detail) (out err : List ℕ) → IsComposed words left d out err → StartsWithP out → IfSome left HasProof
-of_composed words left (D.Proved n) out err c s =
-    let a = c.1.answered.0 in told_proof left c.1.bytes c.1.read (record { system = a.system; form = a.form; valid = a.valid })
-of_composed words left (D.Counter i vs) out err c s =
-    let a = c.1.answered.0 in
-    absurd (other_byte _ s.rest (sym (counter_starts a.system i vs) ∙ (sym a.report ∙ s.is)))
-of_composed words left D.Unsupported out err c s = absurd (nothing s.rest (sym c.1.answered.1 ∙ s.is))
-of_composed words left D.Usage out err c s = absurd (nothing s.rest (sym c.1 ∙ s.is))
-of_composed words left D.TooLong out err c s = absurd (nothing s.rest (sym c.2 ∙ s.is))
-of_composed words left D.ReadFault out err c s = absurd (nothing s.rest (sym c.1 ∙ s.is))
-of_composed words left D.WriteFault out err c s = absurd c
-of_composed words left D.MemoryWanting out err c s = absurd (nothing s.rest (sym c.0 ∙ s.is))
+-- of the reports on a system the one that it is proved begins with `p`
+of_system : (p : Parts) (mode : Mode) (bytes : List ℕ) (d : Detail) → Reads bytes (OneSystem p) → IsAnswer mode (OneSystem p) d → StartsWithP (system_report p d) → HasProof bytes
+of_system p Prove bytes (D.Proved n) reads a s = record { system = p; spells = reads; form = a.0; valid = a.1 }
+of_system p Prove bytes (D.Counter i vs) reads a s = absurd (letter_c _ s.rest (sym (counter_starts p i vs) ∙ s.is))
+of_system p Prove bytes D.Unsupported reads a s = absurd (nothing s.rest s.is)
+of_system p Prove bytes D.Shown reads a s = absurd a
+of_system p Prove bytes (D.TreeRefused f) reads a s = absurd a
+of_system p Prove bytes (D.SyntaxRefused f) reads a s = absurd a
+of_system p Prove bytes D.Usage reads a s = absurd a
+of_system p Prove bytes D.TooLong reads a s = absurd a
+of_system p Prove bytes D.ReadFault reads a s = absurd a
+of_system p Prove bytes D.WriteFault reads a s = absurd a
+of_system p Prove bytes D.MemoryWanting reads a s = absurd a
+of_system p Show bytes d reads a s =
+    let shown : StartsWithP (shown_text p) = subst (λ x. StartsWithP (system_report p x)) a s in
+    absurd (bracket _ shown.rest (sym (shown_starts p) ∙ shown.is))
+
+of_reading : (r : Reading) (mode : Mode) (bytes : List ℕ) (d : Detail) → Reads bytes r → IsAnswer mode r d → StartsWithP (report_of r d) → HasProof bytes
+of_reading (NoTree f) mode bytes d reads a s = absurd (nothing s.rest s.is)
+of_reading (NoSystem f) mode bytes d reads a s = absurd (nothing s.rest s.is)
+of_reading (OneSystem p) mode bytes d reads a s = of_system p mode bytes d reads a s
+
+of_answer : (words : List (String Global)) (left : Option (List ℕ)) (d : Detail) (out : List ℕ) → IsReadAnswer words left d out → StartsWithP out → IfSome left HasProof
+of_answer words left d out c s =
+    let a = c.answered in
+    told_proof left c.bytes c.read (of_reading a.reading c.mode c.bytes d a.reads a.is (subst StartsWithP a.report s))
+
+of_composed : (words : List (String Global)) (left : Option (List ℕ)) (d : Detail) (out : List ℕ) → IsComposed words left d out → StartsWithP out → IfSome left HasProof
+of_composed words left (D.Proved n) out c s = of_answer words left _ out c s
+of_composed words left (D.Counter i vs) out c s = of_answer words left _ out c s
+of_composed words left D.Unsupported out c s = of_answer words left _ out c s
+of_composed words left D.Shown out c s = of_answer words left _ out c s
+of_composed words left (D.TreeRefused f) out c s = of_answer words left _ out c s
+of_composed words left (D.SyntaxRefused f) out c s = of_answer words left _ out c s
+of_composed words left D.Usage out c s = absurd (nothing s.rest (sym c.1 ∙ s.is))
+of_composed words left D.TooLong out c s = absurd (nothing s.rest (sym c.2 ∙ s.is))
+of_composed words left D.ReadFault out c s = absurd (nothing s.rest (sym c.1 ∙ s.is))
+of_composed words left D.WriteFault out c s = absurd c
+of_composed words left D.MemoryWanting out c s = absurd (nothing s.rest (sym c ∙ s.is))
 
 -- a text that a sink got whole, or the part of one that it got, where it begins with `p`
 whole_starts : (before now : Option (List ℕ)) (text : List ℕ) → Grows before now text → BeginsWithP before now → StartsWithP text
@@ -72,13 +109,13 @@ delivered_starts composed answered on-out on-err out out' err err' (inr d) b = f
   failed (inl p) = part_starts out out' on-out p.0 b
   failed (inr w) = whole_starts out out' on-out w.0 b
 
-pub headline : (words : List (String Global)) (left : Option (List ℕ)) (composed answered : Detail) (on-out on-err : List ℕ) (out out' err err' : Option (List ℕ))
-    → IsComposed words left composed on-out on-err → IsDelivered composed answered on-out on-err out out' err err' → BeginsWithP out out' → IfSome left HasProof
-headline words left composed answered on-out on-err out out' err err' c d b =
-    of_composed words left composed on-out on-err c (delivered_starts composed answered on-out on-err out out' err err' d b)
+pub headline : (words : List (String Global)) (left : Option (List ℕ)) (composed answered : Detail) (on-out : List ℕ) (out out' err err' : Option (List ℕ))
+    → IsComposed words left composed on-out → IsDelivered composed answered on-out (told_of composed) out out' err err' → BeginsWithP out out' → IfSome left HasProof
+headline words left composed answered on-out out out' err err' c d b =
+    of_composed words left composed on-out c (delivered_starts composed answered on-out (told_of composed) out out' err err' d b)
 
 -- the answer that came has its reason, as the composed one has, or is a write fault
-pub reason_delivered : (words : List (String Global)) (left : Option (List ℕ)) (composed answered : Detail) (on-out on-err : List ℕ) (out out' err err' : Option (List ℕ))
-    → IsComposed words left composed on-out on-err → IsDelivered composed answered on-out on-err out out' err err' → HasReason words left answered
-reason_delivered words left composed answered on-out on-err out out' err err' c (inl d) = subst (HasReason words left) (sym d.0) (reason words left composed on-out on-err c)
-reason_delivered words left composed answered on-out on-err out out' err err' c (inr d) = subst (HasReason words left) (sym d.0) tt
+pub reason_delivered : (words : List (String Global)) (left : Option (List ℕ)) (composed answered : Detail) (on-out : List ℕ) (out out' err err' : Option (List ℕ))
+    → IsComposed words left composed on-out → IsDelivered composed answered on-out (told_of composed) out out' err err' → HasReason words left answered
+reason_delivered words left composed answered on-out out out' err err' c (inl d) = subst (HasReason words left) (sym d.0) (reason words left composed on-out c)
+reason_delivered words left composed answered on-out out out' err err' c (inr d) = subst (HasReason words left) (sym d.0) tt

@@ -1,11 +1,10 @@
-pub mod SameLemmas
 pub mod ValueLemmas
 pub mod JusticeLemmas
 pub mod SearchLemmas
-pub mod Fronts
-pub mod Rooms
+pub mod ReadingLemmas
 pub mod CallLemmas
 pub mod HeadlineLemmas
 pub mod JudgeLemmas
-pub mod ItemLoops
-pub mod WordLemmas
+pub mod AnswerLemmas
+pub mod CommandLemmas
+pub mod CommandWords

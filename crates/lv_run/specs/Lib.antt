@@ -1,13 +1,11 @@
 pub mod Answers
 pub mod Calls
-pub mod Given
-pub mod Grammar
+pub mod Commands
+pub mod ErrorTexts
+pub mod Form
 pub mod Labels
 pub mod Monitor
 pub mod Obligations
-pub mod Same
 pub mod Search
-pub mod Spelling
 pub mod Texts
 pub mod Truth
-pub mod Words

@@ -11,7 +11,7 @@ use Rattle.lv_system.specs.declared.parts.ActionUpdate.TheVariants as U
 use Rattle.lv_run.specs.declared.which.Move.{Move}
 use Rattle.lv_run.specs.declared.which.Move.TheVariants.{Stay, Freeze, Save}
 use Rattle.lv_run.specs.Truth.{Valuation, truth_in, iff}
-use Rattle.lv_run.specs.Labels.{labels_of}
+use Rattle.lv_run.specs.Labels.{label_bodies}
 
 -- at first neither mark is set, every due set holds all, and each copy is its relation or label
 abbrev pub opening : Valuation → Valuation
@@ -99,7 +99,7 @@ labels_return l (f ∷ fs) m = iff (m (Label l)) (m (CopyLabel l)) && labels_ret
 
 -- the state was saved, nothing is due since, and the state is the saved one
 abbrev pub is_caught : Parts → List Formula → Valuation → Bool
-is_caught p justice m = m Saved && (none_due 0 justice m && (relations_return 0 p.symbols m && labels_return 0 (labels_of p) m))
+is_caught p justice m = m Saved && (none_due 0 justice m && (relations_return 0 p.symbols m && labels_return 0 (label_bodies p) m))
 
 -- a formula that is lent
 abbrev pub lent_formula : Option (Bor Formula) → Option Formula

@@ -14,7 +14,7 @@ use Rattle.lv_run.specs.declared.which.Move.TheVariants.{Stay, Freeze, Save}
 use Rattle.lv_run.specs.declared.which.Which.{Which}
 use Rattle.lv_run.specs.declared.which.Which.TheVariants.{Start, Step, Catch}
 use Rattle.lv_run.specs.Truth.{Valuation, value_in, truth_in, all_hold, iff}
-use Rattle.lv_run.specs.Labels.{labels_of, reading, justice_of}
+use Rattle.lv_run.specs.Labels.{label_bodies, property_reading, justice_of}
 use Rattle.lv_run.specs.Monitor.{opening, stepped, is_allowed, is_caught}
 
 -- ---- words
@@ -36,13 +36,13 @@ copies n [] = []
 copies n (s ∷ ss) = if s.fixed then copies (n + 1) ss else Copy n ∷ copies (n + 1) ss
 
 abbrev pub start_words : Parts → List Sym
-start_words p = numbered F.Own (length p.symbols) ++ numbered F.Label (length (labels_of p))
+start_words p = numbered F.Own (length p.symbols) ++ numbered F.Label (length (label_bodies p))
 
 abbrev pub catch_words : Parts → List Sym
-catch_words p = start_words p ++ (Frozen ∷ Saved ∷ numbered F.Due (length (justice_of p))) ++ (copies 0 p.symbols ++ numbered F.CopyLabel (length (labels_of p)))
+catch_words p = start_words p ++ (Frozen ∷ Saved ∷ numbered F.Due (length (justice_of p))) ++ (copies 0 p.symbols ++ numbered F.CopyLabel (length (label_bodies p)))
 
 abbrev pub step_words : Parts → List Sym
-step_words p = catch_words p ++ numbered F.Next (length (labels_of p))
+step_words p = catch_words p ++ numbered F.Next (length (label_bodies p))
 
 -- the words of an obligation, in order: the vocabulary of the structures that may break it
 abbrev pub words_of : Parts → Which → List Sym
@@ -91,7 +91,7 @@ invariants_hold p m = all_hold m (invariant_formulas p.invariants)
 -- the first state of a run that violates the property, where the invariant doesn't hold
 abbrev pub breaks_start : Parts → ℕ → Valuation → Bool
 breaks_start p i m =
-    all_hold m p.axioms && (all_hold m p.inits && (not (truth_in m (reading (labels_of p) p.property))
+    all_hold m p.axioms && (all_hold m p.inits && (not (truth_in m (property_reading p))
     && not (invariant_holds (opening m) (slice_get p.invariants i))))
 
 -- a state with all invariants from which a step of the action leads to one without this invariant
@@ -99,7 +99,7 @@ abbrev pub breaks_step : Parts → Move → ℕ → Valuation → Option Action 
 breaks_step p move i m None = false
 breaks_step p move i m (Some a) =
     all_hold m p.axioms && (invariants_hold p m && (truth_in m a.guard && (is_allowed (justice_of p) move m
-    && (labels_agree 0 (labels_of p) m && not (invariant_holds (stepped (justice_of p) a.updates move m) (slice_get p.invariants i))))))
+    && (labels_agree 0 (label_bodies p) m && not (invariant_holds (stepped (justice_of p) a.updates move m) (slice_get p.invariants i))))))
 
 -- a caught state with all invariants
 abbrev pub breaks_catch : Parts → Valuation → Bool

@@ -1,34 +1,33 @@
-//! The one call that does all that the program does, for systems of relations without arguments.
+//! The one call that does all that the program does.
 //!
-//! A text is read as a tree and then as a system. Its obligations are decided by trying all structures
-//! of their vocabularies, and the report is written.
+//! A text is read as a tree and then as a system, which is shown, or whose obligations are decided. At
+//! this step that is done by trying all structures of their vocabularies, for systems of relations
+//! without arguments.
 #![tactic(auto)]
 
-mod atoms;
+mod answer;
 mod call;
+mod commands;
 mod decide;
 mod detail;
-mod draft;
-mod formulas;
-mod growing;
-mod items;
+mod form;
 mod judge;
-mod keywords;
 mod labels;
 pub mod laws;
+mod mode;
 mod monitor;
+mod named;
 mod obligations;
-mod refusal;
-mod system;
+mod reader;
 mod tableau;
 mod texts;
-mod trees;
 mod truth;
 mod which;
 mod words;
 
 pub use call::{Report, run};
 pub use detail::Detail;
+pub use mode::Mode;
 pub use which::{Move, Which};
 
 #[cfg(test)]

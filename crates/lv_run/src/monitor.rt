@@ -172,5 +172,5 @@ pub(crate) fn is_state_caught(m: &Structure, tableau: &Tableau) -> bool
     m.holds(Sym::Saved)
         && is_nothing_due(m, tableau.justice.as_slice())
         && do_relations_return(m, tableau.parts.symbols.as_slice())
-        && do_labels_return(m, tableau.labels.as_slice())
+        && do_labels_return(m, tableau.bodies.as_slice())
 }

@@ -137,7 +137,7 @@ fn does_break_step(tableau: &Tableau, action: u32, mv: Move, invariant: u32, m: 
                 && all_invariants(tableau.parts.invariants.as_slice(), m)
                 && truth(&action.guard, m)
                 && may_move(mv, m, tableau.justice.as_slice())
-                && do_labels_agree(tableau.labels.as_slice(), m)
+                && do_labels_agree(tableau.bodies.as_slice(), m)
                 && is_broken_after(tableau, action, mv, invariant, m)
         }
     }

@@ -1,16 +1,20 @@
 //! The texts of reports.
 ghost use Rattle.std.specs.Prelude.{◌≡◌, ◌++◌, codes, decimal, OnOk, IfOk, length, slice_get};
+ghost use Rattle.lv_grammar.specs.Words.{symbol_word};
 ghost use Rattle.lv_run.specs.Obligations.{words_of, obligation_at};
-ghost use Rattle.lv_run.specs.Texts.{name_at, label_text, justice_text, symbol_text, word_text, tuple_text, relation_text, relation_texts, structure_text, move_text, invariant_text, obligation_text, counter_text, proved_text};
+ghost use Rattle.lv_run.specs.Texts.{name_at, tuple_text, relation_text, relation_texts, structure_text, move_text, invariant_text, obligation_text, counter_text, proved_text, refusal_text, tree_refusal_text, kind_text, syntax_refusal_text};
 
-use crate::draft::Named;
+use crate::named::Named;
 use crate::obligations::obligation;
 use crate::tableau::Tableau;
 use crate::which::{Move, Which};
 use crate::words::words;
 use itoa::Buffer;
 use lv_formula::{Memory, Sym};
+use lv_show::show_sym;
+use lv_syntax::{Kind, SyntaxFault};
 use lv_system::Parts;
+use lv_tree::TreeFault;
 use std::alloc::Global;
 
 fn push_number(text: &mut Vec<u8>, number: u32) -> Result<(), Memory>
@@ -32,63 +36,27 @@ fn push_name<T: Named>(text: &mut Vec<u8>, items: &[T], number: u32) -> Result<(
     Ok(())
 }
 
-/// Adds a label's declared name, or `label.` and its number.
-fn push_label(text: &mut Vec<u8>, parts: &Parts, number: u32) -> Result<(), Memory>
-    ensures { OnOk result (text.new.items ≡ text.old.items ++ label_text parts.now number) }
+/// Adds the word of a symbol.
+fn push_word(alloc: Global, text: &mut Vec<u8>, tableau: &Tableau, sym: Sym) -> Result<(), Memory>
+    ensures { OnOk result (text.new.items ≡ text.old.items ++ symbol_word tableau.now.parts.now sym) }
 {
-    if (number as usize) < parts.labels.as_slice().len() {
-        return push_name(text, parts.labels.as_slice(), number);
-    }
-    text.extend_from_slice(b"label.")?;
-    push_number(text, number)
-}
-
-/// Adds the name of a fairness condition, or the word of a label.
-fn push_justice(text: &mut Vec<u8>, parts: &Parts, number: u32) -> Result<(), Memory>
-    ensures { OnOk result (text.new.items ≡ text.old.items ++ justice_text parts.now number) }
-{
-    let fairs = parts.fairs.as_slice().len();
-    if (number as usize) < fairs {
-        return push_name(text, parts.fairs.as_slice(), number);
-    }
-    push_label(text, parts, number - fairs as u32)
-}
-
-/// Adds a word of a vocabulary.
-fn push_word(text: &mut Vec<u8>, parts: &Parts, sym: Sym) -> Result<(), Memory>
-    ensures { OnOk result (text.new.items ≡ text.old.items ++ word_text parts.now sym) }
-{
-    match sym {
-        Sym::Own(n) => push_name(text, parts.symbols.as_slice(), n),
-        Sym::Label(k) => push_label(text, parts, k),
-        Sym::Frozen => Ok(text.extend_from_slice(b"frozen")?),
-        Sym::Saved => Ok(text.extend_from_slice(b"saved")?),
-        Sym::Due(j) => {
-            text.extend_from_slice(b"due.")?;
-            push_justice(text, parts, j)
-        }
-        Sym::Copy(n) => {
-            text.extend_from_slice(b"saved.")?;
-            push_name(text, parts.symbols.as_slice(), n)
-        }
-        Sym::CopyLabel(k) => {
-            text.extend_from_slice(b"saved.")?;
-            push_label(text, parts, k)
-        }
-        Sym::Next(k) => {
-            text.extend_from_slice(b"next.")?;
-            push_label(text, parts, k)
-        }
-        Sym::Witness(_) | Sym::Touched(_) | Sym::Kept(_) | Sym::Param(_) => Ok(()),
-    }
+    let word = show_sym(alloc, sym, tableau.system, &tableau.table)?;
+    text.extend_from_slice(word.as_slice())?;
+    Ok(())
 }
 
 /// Adds a relation with the empty tuple, or with none.
-fn push_relation(text: &mut Vec<u8>, parts: &Parts, sym: Sym, holds: bool) -> Result<(), Memory>
-    ensures { OnOk result (text.new.items ≡ text.old.items ++ relation_text parts.now sym holds) }
+fn push_relation(
+    alloc: Global,
+    text: &mut Vec<u8>,
+    tableau: &Tableau,
+    sym: Sym,
+    holds: bool,
+) -> Result<(), Memory>
+    ensures { OnOk result (text.new.items ≡ text.old.items ++ relation_text tableau.now.parts.now sym holds) }
 {
     text.extend_from_slice(b"\n  (relation ")?;
-    push_word(text, parts, sym)?;
+    push_word(alloc, text, tableau, sym)?;
     push_tuples(text, holds)?;
     Ok(())
 }
@@ -105,31 +73,33 @@ fn push_tuples(text: &mut Vec<u8>, holds: bool) -> Result<(), Memory>
 }
 
 fn push_relations(
+    alloc: Global,
     text: &mut Vec<u8>,
-    parts: &Parts,
+    tableau: &Tableau,
     words: &[Sym],
     values: &[bool],
 ) -> Result<(), Memory>
     requires { length values.now ≡ length words.now }
-    ensures { OnOk result (text.new.items ≡ text.old.items ++ relation_texts parts.now words.now values.now) }
+    ensures { OnOk result (text.new.items ≡ text.old.items ++ relation_texts tableau.now.parts.now words.now values.now) }
 {
     for i in 0..words.len() {
-        push_relation(text, parts, words[i], values[i])?;
+        push_relation(alloc, text, tableau, words[i], values[i])?;
     }
     Ok(())
 }
 
 fn push_structure(
+    alloc: Global,
     text: &mut Vec<u8>,
-    parts: &Parts,
+    tableau: &Tableau,
     words: &[Sym],
     values: &[bool],
 ) -> Result<(), Memory>
     requires { length values.now ≡ length words.now }
-    ensures { OnOk result (text.new.items ≡ text.old.items ++ structure_text parts.now words.now values.now) }
+    ensures { OnOk result (text.new.items ≡ text.old.items ++ structure_text tableau.now.parts.now words.now values.now) }
 {
     text.extend_from_slice(b"(structure")?;
-    push_relations(text, parts, words, values)?;
+    push_relations(alloc, text, tableau, words, values)?;
     text.extend_from_slice(b")\n")?;
     Ok(())
 }
@@ -195,7 +165,7 @@ pub(crate) fn counter_report(
     text.extend_from_slice(b" ")?;
     push_obligation(&mut text, tableau.parts, which)?;
     text.extend_from_slice(b"\n")?;
-    push_structure(&mut text, tableau.parts, words.as_slice(), values)?;
+    push_structure(alloc, &mut text, tableau, words.as_slice(), values)?;
     Ok(text)
 }
 
@@ -207,4 +177,58 @@ pub(crate) fn proved_report(alloc: Global, obligations: u32) -> Result<Vec<u8>, 
     push_number(&mut text, obligations)?;
     text.extend_from_slice(b" obligations\n")?;
     Ok(text)
+}
+
+/// The place and the kind of a fault.
+fn refusal(alloc: Global, at: u32, kind: &str) -> Result<Vec<u8>, Memory>
+    ensures { IfOk result (λ text. text.items ≡ refusal_text at kind.now) }
+{
+    let mut text = Vec::from_slice(alloc, b"text refused at ")?;
+    push_number(&mut text, at)?;
+    text.extend_from_slice(b": ")?;
+    text.extend_from_slice(kind.as_bytes())?;
+    text.extend_from_slice(b"\n")?;
+    Ok(text)
+}
+
+/// What is told of bytes that spell no tree. The error is want of memory.
+pub(crate) fn tree_refusal(alloc: Global, fault: &TreeFault) -> Result<Vec<u8>, Memory>
+    ensures { IfOk result (λ text. text.items ≡ tree_refusal_text fault.now) }
+{
+    match fault {
+        TreeFault::BadByte { at } => refusal(alloc, *at, "bad byte"),
+        TreeFault::Extra { at } => refusal(alloc, *at, "extra"),
+        TreeFault::TooDeep { at } => refusal(alloc, *at, "too deep"),
+        TreeFault::LongWord { at } => refusal(alloc, *at, "long word"),
+        TreeFault::Unclosed { at } => refusal(alloc, *at, "unclosed"),
+        TreeFault::Empty => refusal(alloc, 0, "empty"),
+        TreeFault::Memory => Ok(Vec::new(alloc)),
+    }
+}
+
+/// The name of a kind of fault.
+fn kind_name(kind: Kind) -> &'static str
+    ensures { result.now ≡ kind_text kind }
+{
+    match kind {
+        Kind::Unexpected => "unexpected",
+        Kind::Missing => "missing",
+        Kind::UnknownName => "unknown name",
+        Kind::TwiceNamed => "twice named",
+        Kind::WrongSort => "wrong sort",
+        Kind::WrongArity => "wrong arity",
+        Kind::NotFixed => "not fixed",
+        Kind::IsFixed => "is fixed",
+        Kind::SetTwice => "set twice",
+        Kind::MonitorWord => "monitor word",
+        Kind::TooMany => "too many",
+        Kind::FreeName => "free name",
+    }
+}
+
+/// What is told of a tree that spells no system. The error is want of memory.
+pub(crate) fn syntax_refusal(alloc: Global, fault: SyntaxFault) -> Result<Vec<u8>, Memory>
+    ensures { IfOk result (λ text. text.items ≡ syntax_refusal_text fault) }
+{
+    refusal(alloc, fault.at, kind_name(fault.kind))
 }

@@ -64,7 +64,7 @@ fn start(alloc: Global, tableau: &Tableau) -> Result<Vec<Sym>, Memory>
         Family::Own,
         tableau.parts.symbols.as_slice().len() as u32,
     )?;
-    push_numbered(&mut words, Family::Label, tableau.labels.len() as u32)?;
+    push_numbered(&mut words, Family::Label, tableau.bodies.len() as u32)?;
     Ok(words)
 }
 
@@ -92,7 +92,7 @@ fn catch(alloc: Global, tableau: &Tableau) -> Result<Vec<Sym>, Memory>
     push_saved(
         &mut words,
         tableau.parts.symbols.as_slice(),
-        tableau.labels.len() as u32,
+        tableau.bodies.len() as u32,
     )?;
     Ok(words)
 }
@@ -101,7 +101,7 @@ fn step(alloc: Global, tableau: &Tableau) -> Result<Vec<Sym>, Memory>
     ensures { IfOk result (λ words. words.items ≡ step_words tableau.now.parts.now) }
 {
     let mut words = catch(alloc, tableau)?;
-    push_numbered(&mut words, Family::Next, tableau.labels.len() as u32)?;
+    push_numbered(&mut words, Family::Next, tableau.bodies.len() as u32)?;
     Ok(words)
 }
 

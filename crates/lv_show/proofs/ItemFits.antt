@@ -52,7 +52,7 @@ both_fit room (t ∷ ts) us h k =
     items_fit room t (ts ++ us) both.0 (both_fit room ts us both.1 k)
 
 -- both of two things hold of each
-both_hold : {X : Type 0} (P Q : X → Type 0) (xs : List X) → Holds P xs → Holds Q xs → Holds (λ x. P x × Q x) xs
+pub both_hold : {X : Type 0} (P Q : X → Type 0) (xs : List X) → Holds P xs → Holds Q xs → Holds (λ x. P x × Q x) xs
 both_hold P Q [] h k = tt
 both_hold P Q (x ∷ xs) h k = ((h.0, k.0), both_hold P Q xs h.1 k.1)
 
@@ -208,7 +208,7 @@ module _ (p : Parts) (n : Named p) where
       two_parts (codes "invariant") (word i.name) (shown_formula p i.formula 0) room refl (omega (arith, le)) (word_fits (room - 1) i.name h)
       (formula_can_be_written p i.formula (room - 1) 0 w (omega (arith, le, small)) (omega arith))
 
-words_hold : (p : Parts) (is' : List Invariant) → invariants_have_words p is' ≡ true → Holds (λ i. has_words p (lifted i.formula) ≡ true) is'
+pub words_hold : (p : Parts) (is' : List Invariant) → invariants_have_words p is' ≡ true → Holds (λ i. has_words p (lifted i.formula) ≡ true) is'
 words_hold p = holds_from (λ i. has_words p (lifted i.formula) ≡ true) (λ i. has_words p (lifted i.formula)) (invariants_have_words p) (λ x xs. refl) (λ x e. e)
 
 formulas_can_be_written : (p : Parts) (voc : Vocabulary) → AreSpoken p voc → (text : List ℕ) (fs : List Formula) (room : ℕ) → is_text text ≡ true → 59 ≤ room → formulas_fit voc fs ≡ true

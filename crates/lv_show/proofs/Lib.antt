@@ -12,6 +12,7 @@ pub mod SymbolWords
 pub mod VocabularyWords
 pub mod SpokenParts
 pub mod ItemFits
+pub mod ShownFormulas
 pub mod TextLaw
 pub mod Elements
 pub mod TableLaw

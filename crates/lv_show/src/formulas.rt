@@ -1,5 +1,5 @@
 //! The trees that are shown for terms and formulas.
-ghost use Rattle.std.specs.Prelude.{◌≡◌, ◌∷◌, ◌++◌, [], List, map, IfOk, OnOk};
+ghost use Rattle.std.specs.Prelude.{◌≡◌, ◌∷◌, ◌++◌, [], List, map, codes, IfOk, OnOk};
 ghost use Rattle.lv_grammar.specs.Words.{sort_name, symbol_word};
 ghost use Rattle.lv_show.specs.Formulas.{word, list, variable_name, deeper, shown_term, shown_atom, shown_temporal, shown_temporals, shown_formula, shown_formulas};
 ghost use Rattle.lv_show.specs.Tables.{IsTable};
@@ -7,8 +7,6 @@ ghost use Rattle.lv_show.specs.Tables.{IsTable};
 use crate::trees::{eventually, list, many, pair, triple, variable, word};
 use crate::words::{Words, sort_name, symbol_word};
 use lv_formula::{Formula, Memory, Rc, SortId, Sym, Temporal, Term};
-use lv_system::Parts;
-use lv_temporal::Label;
 use lv_tree::Tree;
 use std::alloc::Global;
 
@@ -51,6 +49,15 @@ fn atom(alloc: Global, sym: Sym, terms: &[Term], words: &Words, depth: u64) -> R
     Ok(list(items))
 }
 
+/// An equation of two terms.
+fn equation(alloc: Global, a: &Term, b: &Term, words: &Words, depth: u64) -> Result<Tree, Memory>
+    requires { IsTable words.now.parts.now words.now.labels.now }
+    ensures { IfOk result (λ t. t ≡ list (word (codes "=") ∷ shown_term words.now.parts.now depth a.now ∷ shown_term words.now.parts.now depth b.now ∷ [])) }
+{
+    let left = term(alloc, a, words, depth)?;
+    triple(alloc, b"=", left, term(alloc, b, words, depth)?)
+}
+
 /// A quantifier over the formula of which this is the tree.
 fn binder(
     alloc: Global,
@@ -80,10 +87,7 @@ pub(crate) fn formula(alloc: Global, f: &Formula, words: &Words, depth: u64) -> 
         Formula::True => word(alloc, b"true"),
         Formula::False => word(alloc, b"false"),
         Formula::Atom(sym, terms) => atom(alloc, *sym, terms.as_slice(), words, depth),
-        Formula::Same(a, b) => {
-            let left = term(alloc, a, words, depth)?;
-            triple(alloc, b"=", left, term(alloc, b, words, depth)?)
-        }
+        Formula::Same(a, b) => equation(alloc, a, b, words, depth),
         Formula::Not(f) => pair(alloc, b"not", formula(alloc, f, words, depth)?),
         Formula::And(fs) => formulas(alloc, b"and", fs.as_slice(), words, depth),
         Formula::Or(fs) => formulas(alloc, b"or", fs.as_slice(), words, depth),
@@ -131,61 +135,42 @@ fn formulas(
 pub(crate) fn temporal(
     alloc: Global,
     f: &Temporal,
-    parts: &Parts,
-    labels: &[Label],
+    words: &Words,
     depth: u64,
 ) -> Result<Tree, Memory>
-    requires { IsTable parts.now labels.now }
-    ensures { IfOk result (λ t. t ≡ shown_temporal parts.now f.now depth) }
+    requires { IsTable words.now.parts.now words.now.labels.now }
+    ensures { IfOk result (λ t. t ≡ shown_temporal words.now.parts.now f.now depth) }
 {
-    let words = Words { parts, labels };
     match f {
         Temporal::True => word(alloc, b"true"),
         Temporal::False => word(alloc, b"false"),
-        Temporal::Atom(sym, terms) => atom(alloc, *sym, terms.as_slice(), &words, depth),
-        Temporal::Same(a, b) => {
-            let left = term(alloc, a, &words, depth)?;
-            triple(alloc, b"=", left, term(alloc, b, &words, depth)?)
-        }
-        Temporal::Not(f) => pair(alloc, b"not", temporal(alloc, f, parts, labels, depth)?),
+        Temporal::Atom(sym, terms) => atom(alloc, *sym, terms.as_slice(), words, depth),
+        Temporal::Same(a, b) => equation(alloc, a, b, words, depth),
+        Temporal::Not(f) => pair(alloc, b"not", temporal(alloc, f, words, depth)?),
         Temporal::And(fs) => many(
             alloc,
             b"and",
-            temporals(alloc, fs.as_slice(), parts, labels, depth)?,
+            temporals(alloc, fs.as_slice(), words, depth)?,
         ),
-        Temporal::Or(fs) => many(
-            alloc,
-            b"or",
-            temporals(alloc, fs.as_slice(), parts, labels, depth)?,
-        ),
+        Temporal::Or(fs) => many(alloc, b"or", temporals(alloc, fs.as_slice(), words, depth)?),
         Temporal::Implies(f, g) => {
-            let left = temporal(alloc, f, parts, labels, depth)?;
-            triple(
-                alloc,
-                b"implies",
-                left,
-                temporal(alloc, g, parts, labels, depth)?,
-            )
+            let left = temporal(alloc, f, words, depth)?;
+            triple(alloc, b"implies", left, temporal(alloc, g, words, depth)?)
         }
         Temporal::Iff(f, g) => {
-            let left = temporal(alloc, f, parts, labels, depth)?;
-            triple(
-                alloc,
-                b"iff",
-                left,
-                temporal(alloc, g, parts, labels, depth)?,
-            )
+            let left = temporal(alloc, f, words, depth)?;
+            triple(alloc, b"iff", left, temporal(alloc, g, words, depth)?)
         }
         Temporal::All(sort, f) => {
-            let body = temporal(alloc, f, parts, labels, depth.saturating_add(1))?;
-            binder(alloc, b"all", *sort, body, &words, depth)
+            let body = temporal(alloc, f, words, depth.saturating_add(1))?;
+            binder(alloc, b"all", *sort, body, words, depth)
         }
         Temporal::Any(sort, f) => {
-            let body = temporal(alloc, f, parts, labels, depth.saturating_add(1))?;
-            binder(alloc, b"some", *sort, body, &words, depth)
+            let body = temporal(alloc, f, words, depth.saturating_add(1))?;
+            binder(alloc, b"some", *sort, body, words, depth)
         }
-        Temporal::Always(f) => pair(alloc, b"always", temporal(alloc, f, parts, labels, depth)?),
-        Temporal::Eventually(f) => eventually(alloc, temporal(alloc, f, parts, labels, depth)?),
+        Temporal::Always(f) => pair(alloc, b"always", temporal(alloc, f, words, depth)?),
+        Temporal::Eventually(f) => eventually(alloc, temporal(alloc, f, words, depth)?),
     }
 }
 
@@ -195,16 +180,15 @@ pub(crate) fn temporal(
 fn temporals(
     alloc: Global,
     fs: &[Rc<Temporal>],
-    parts: &Parts,
-    labels: &[Label],
+    words: &Words,
     depth: u64,
 ) -> Result<Vec<Tree>, Memory>
-    requires { IsTable parts.now labels.now }
-    ensures { IfOk result (λ ts. ts.items ≡ shown_temporals parts.now fs.now depth) }
+    requires { IsTable words.now.parts.now words.now.labels.now }
+    ensures { IfOk result (λ ts. ts.items ≡ shown_temporals words.now.parts.now fs.now depth) }
 {
     let mut trees = Vec::new(alloc);
     for f in fs {
-        trees.push(temporal(alloc, f, parts, labels, depth)?)?;
+        trees.push(temporal(alloc, f, words, depth)?)?;
     }
     Ok(trees)
 }

@@ -268,13 +268,7 @@ impl Item for LabelDecl {
 
     fn tree(&self, alloc: Global, words: &Words) -> Result<Tree, Memory> {
         let params = self.params.as_slice();
-        let body = temporal(
-            alloc,
-            &self.formula,
-            words.parts,
-            words.labels,
-            params.len() as u64,
-        )?;
+        let body = temporal(alloc, &self.formula, words, params.len() as u64)?;
         declaration(
             alloc,
             b"label",
@@ -290,7 +284,7 @@ impl Item for WitnessDecl {
     ghost shown = { λ p w. shown_witness p w };
 
     fn tree(&self, alloc: Global, words: &Words) -> Result<Tree, Memory> {
-        let body = temporal(alloc, &self.formula, words.parts, words.labels, 1)?;
+        let body = temporal(alloc, &self.formula, words, 1)?;
         declaration(
             alloc,
             b"witness",
@@ -380,7 +374,7 @@ fn property(alloc: Global, words: &Words) -> Result<Tree, Memory>
     requires { IsTable words.now.parts.now words.now.labels.now }
     ensures { IfOk result (λ t. t ≡ shown_property words.now.parts.now) }
 {
-    let body = temporal(alloc, &words.parts.property, words.parts, words.labels, 0)?;
+    let body = temporal(alloc, &words.parts.property, words, 0)?;
     pair(alloc, b"property", body)
 }
 

@@ -100,7 +100,7 @@ equation_in d role vs end items = do
 
 -- ---- formulas
 
--- what reads the parts of a formula, where an `iff` may stand inside so many others less
+-- what reads the parts of a formula: how many `iff`s may still stand inside one another, the scope, and the part's tree
 abbrev pub Reader : Type 0
 Reader = ℕ → List Variable → Tree → Result Temporal SyntaxFault
 

@@ -382,7 +382,7 @@ abbrev pub one_if : {A : Type 0} → Option A → ℕ
 one_if None = 0
 one_if (Some x) = 1
 
--- how many items of the kind there are, and how many there may be
+-- whether there are as many items of the kind as there may be
 abbrev pub is_full : Draft → ItemKind → Bool
 is_full d I.Sort = leb 16 (length d.sorts)
 is_full d I.Relation = leb 256 (length d.symbols)

@@ -285,7 +285,7 @@ as_relation d role at Other = fail Unexpected at
 unfoldable pub relation_at : Draft → Role → ℕ → List ℕ → Result Predicate SyntaxFault
 relation_at d role at text = said d role at text >>= as_relation d role at
 
--- a symbol or a variable with its sort
+-- a constant symbol with its sort
 abbrev pub as_constant : Draft → Role → ℕ → Said → Result (Sym × SortId) SyntaxFault
 as_constant d role at (Constant sym sort) = permitted d role at sym >>= λ _. Ok (sym, sort)
 as_constant d role at (Relation sym sorts) = fail Unexpected at

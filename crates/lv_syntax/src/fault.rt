@@ -27,11 +27,11 @@ pub enum Kind {
     IsFixed,
     /// A second `set` of one symbol in an action.
     SetTwice,
-    /// A word of the monitor outside invariants.
+    /// Outside invariants, a word of the monitor or a label; a witness where it may not stand.
     MonitorWord,
     /// A limit is passed.
     TooMany,
-    /// The listed variables of a label aren't the free ones of its formula.
+    /// The listed variables of a label aren't the free ones of its formula in order of first occurrence.
     FreeName,
 }
 

@@ -10,4 +10,4 @@ abbrev pub decreases-temporals : goal.decreases-temporals
 decreases-temporals l = 2 * temporal_nodes_of_all l.fs.now + 1
 
 abbrev pub invariant-temporals-loop-f : goal.invariant-temporals-loop-f
-invariant-temporals-loop-f l = l.trees.items ++ shown_temporals l.parts (drop l.f-index l.fs) l.depth ≡ shown_temporals l.parts l.fs l.depth
+invariant-temporals-loop-f l = l.trees.items ++ shown_temporals l.words.parts.now (drop l.f-index l.fs) l.depth ≡ shown_temporals l.words.parts.now l.fs l.depth
