@@ -7,8 +7,6 @@
 mod env;
 mod evaluate;
 pub mod laws;
-#[cfg(test)]
-mod tests;
 
 pub use env::Env;
 pub use evaluate::truth;

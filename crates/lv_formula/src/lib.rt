@@ -15,8 +15,6 @@ mod symbols;
 mod temporal;
 mod temporal_scope;
 mod terms;
-#[cfg(test)]
-mod tests;
 mod update;
 mod vocabulary;
 

@@ -7,8 +7,6 @@
 mod formulas;
 mod items;
 pub mod laws;
-#[cfg(test)]
-mod tests;
 mod texts;
 mod trees;
 mod words;

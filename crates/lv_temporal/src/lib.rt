@@ -13,8 +13,6 @@ pub mod laws;
 mod listing;
 mod readings;
 mod renumber;
-#[cfg(test)]
-mod tests;
 mod variables;
 
 pub use key::Key;
