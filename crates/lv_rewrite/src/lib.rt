@@ -8,8 +8,6 @@
 mod instantiating;
 mod replacing;
 mod shifting;
-#[cfg(test)]
-mod tests;
 
 pub use instantiating::instantiate;
 pub use replacing::replace;
