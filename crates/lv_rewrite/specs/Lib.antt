@@ -4,4 +4,3 @@ pub mod Replace
 pub mod Samples
 pub mod Shift
 pub mod Tables
-pub mod Updated
