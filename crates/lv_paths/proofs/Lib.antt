@@ -1,0 +1,3 @@
+pub mod PerformingLaws
+pub mod RewritingLaws
+pub mod StructureLaws
