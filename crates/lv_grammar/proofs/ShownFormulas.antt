@@ -31,12 +31,6 @@ numbered P Q one [] h k d lt = absurd (omega (arith, lt))
 numbered P Q one (x ∷ xs) h zero d lt = one x h.0
 numbered P Q one (x ∷ xs) h (suc k) d lt = numbered P Q one xs h.1 k d (omega (arith, lt))
 
--- what holds of each holds of the first
-pub of_first : {X : Type 0} (P : X → Type 0) (xs ys : List X) (x : X) → All P ys → xs ≡ ys → x ≡ get_or xs 0 x → 1 ≤ length xs → P x
-of_first P xs ys x all e is le =
-    let n = ap length e in
-    subst P (sym (is ∙ ap (λ l. get_or l 0 x) e)) (all 0 x (omega (arith, le, n)))
-
 module _ (p : Parts) where
   alone : (voc : Vocabulary) → AreSpoken p voc → (fs : List Formula) → formulas_fit voc fs ≡ true → All (CanBeShown p) fs
   alone voc spoken fs e =
