@@ -1,3 +1,4 @@
+pub mod LabelLaws
 pub mod PerformingLaws
 pub mod RewritingLaws
 pub mod StructureLaws

@@ -1,3 +1,4 @@
+pub mod Labels
 pub mod Performing
 pub mod Rewriting
 pub mod Structures

@@ -1,9 +1,8 @@
 //! Labels of a system that a text spells, the reading of its property, and what is shown of it.
-ghost use Rattle.std.specs.Prelude.{IfOk};
-ghost use Rattle.lv_grammar.specs.LayoutLaws.{FormulasCanBeShown};
+ghost use Rattle.std.specs.Prelude.{◌≡◌, IfOk};
+ghost use Rattle.lv_paths.specs.Labels.{same_once_frozen};
 
-use lv_formula::{Formula, Memory, SortId, Sym, Term, all, atom, not, or};
-use lv_grammar::laws::spelled_can_be_shown;
+use lv_formula::{Formula, Memory, SortId, Sym, Term, all, atom, implies, not, or, same};
 use lv_labels::{Label, labels_of, reading};
 use lv_show::{show_formula, show_sym};
 use lv_syntax::read_system;
@@ -17,10 +16,7 @@ const TEXT: &str =
 
 const NODE: SortId = SortId(0);
 
-fn system(alloc: Global) -> Result<System, Fail>
-    ensures { IfOk result FormulasCanBeShown }
-{
-    spelled_can_be_shown();
+fn system(alloc: Global) -> Result<System, Fail> {
     if TEXT.len() > MAX_BYTES {
         return Err(Fail::from("the text is short"));
     }
@@ -67,36 +63,32 @@ fn a_property_is_read_over_labels(rt: HostRuntime) -> Result<(), Fail> {
     Ok(())
 }
 
-/// The first axiom on one line.
-fn shown_axiom(alloc: Global, system: &System) -> Result<lv_tree::List<u8>, Fail>
-    requires { FormulasCanBeShown system.now }
+/// Once frozen, two variables are the same.
+fn same_once_frozen(alloc: Global) -> Result<Formula, Memory>
+    ensures { IfOk result (λ f. f ≡ same_once_frozen) }
 {
-    let table = labels_of(alloc, system)?;
-    match system.parts().axioms.as_slice() {
-        [axiom, ..] => Ok(show_formula(alloc, axiom, system, &table, 0)?),
-        [] => Ok(lv_tree::List::from_vec(Vec::new(alloc))),
-    }
+    implies(
+        alloc,
+        atom(alloc, Sym::Frozen, &[])?,
+        same(Term::Var(0), Term::Var(1)),
+    )
 }
 
 #[test]
+#[tactic(auto, using(crate::proofs::LabelLaws::same_has_words))]
 fn formulas_and_symbols_are_shown(rt: HostRuntime) -> Result<(), Fail> {
-    let system = system(rt.alloc())?;
-    let axiom = shown_axiom(rt.alloc(), &system)?;
-    assert_eq!(rt;
-        axiom.as_slice(),
-        b"(all X0 node (some X1 node (le X1 X0)))".as_slice()
-    );
-    let table = labels_of(rt.alloc(), &system)?;
+    let alloc = rt.alloc();
+    let system = system(alloc)?;
+    let table = labels_of(alloc, &system)?;
+    let line = show_formula(alloc, &same_once_frozen(alloc)?, &system, &table, 2)?;
+    assert_eq!(rt; line.as_slice(), b"(implies frozen (= X1 X0))".as_slice());
     for (sym, word) in [
         (Sym::Next(0), b"next.linked".as_slice()),
         (Sym::CopyLabel(1), b"saved.label.1".as_slice()),
         (Sym::Touched(NODE), b"touched.node".as_slice()),
         (Sym::Param(12), b"param.12".as_slice()),
     ] {
-        assert_eq!(rt;
-            show_sym(rt.alloc(), sym, &system, &table)?.as_slice(),
-            word
-        );
+        assert_eq!(rt; show_sym(alloc, sym, &system, &table)?.as_slice(), word);
     }
     Ok(())
 }
