@@ -1,4 +1,3 @@
 pub mod LabelLaws
 pub mod PerformingLaws
-pub mod RewritingLaws
 pub mod StructureLaws

@@ -1,4 +1,3 @@
 pub mod Labels
 pub mod Performing
-pub mod Rewriting
 pub mod Structures
