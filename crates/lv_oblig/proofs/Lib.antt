@@ -9,10 +9,14 @@ pub mod Fit
 pub mod Numbered
 pub mod Order
 pub mod ProblemFits
+pub mod Rows
 pub mod Sameness
 pub mod Sense
 pub mod Small
 pub mod SortsThere
 pub mod Steps
 pub mod Turns
+pub mod Visits
+pub mod VisitsProblem
+pub mod VisitsRun
 pub mod Walk

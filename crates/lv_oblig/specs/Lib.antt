@@ -1,3 +1,6 @@
 pub mod Obligations
+pub mod Projections
+pub mod Rows
 pub mod Small
+pub mod Visits
 pub mod Walk

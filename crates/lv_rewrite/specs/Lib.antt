@@ -1,7 +1,5 @@
 pub mod Instantiate
-pub mod Numbers
 pub mod Replace
-pub mod Samples
 pub mod Shift
 pub mod Tables
 pub mod Updated

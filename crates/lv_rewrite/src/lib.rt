@@ -6,10 +6,9 @@
 #![tactic(auto)]
 
 mod instantiating;
+mod numbers;
 mod replacing;
 mod shifting;
-#[cfg(test)]
-mod tests;
 
 pub use instantiating::instantiate;
 pub use replacing::replace;
