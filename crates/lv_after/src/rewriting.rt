@@ -1,9 +1,9 @@
 ghost use Rattle.std.specs.Prelude.{◌≡◌, IfOk, true};
-ghost use Rattle.lv_struct.specs.Meaning.{Meaning};
-ghost use Rattle.lv_eval.specs.Truth.{Env, truth_in};
+ghost use Rattle.lv_formula.specs.Meaning.{Meaning};
+ghost use Rattle.lv_formula.specs.Truth.{Env, truth_in};
 ghost use Rattle.lv_rewrite.specs.Replace.{replace_of};
 ghost use Rattle.lv_rewrite.specs.Tables.{FitsWith, are_constants, AreScoped};
-ghost use Rattle.lv_rewrite.specs.Updated.{updated};
+ghost use Rattle.lv_formula.specs.Updated.{updated};
 
 use lv_formula::{Formula, Memory, Update};
 use lv_rewrite::replace;

@@ -10,8 +10,6 @@ mod memory_sink;
 mod memory_source;
 mod reading;
 mod streams;
-#[cfg(test)]
-mod tests;
 mod writing;
 
 pub use adapters::{StdSink, StdSource};

@@ -1,4 +1,1 @@
-pub mod AgreeLaw
-pub mod Below
-pub mod Readings
 pub mod TermLaws

@@ -1,8 +1,8 @@
 ghost use Rattle.std.specs.Prelude.{◌≡◌, ◌≤◌, ◌∷◌, ◌+◌};
 ghost use Rattle.lv_formula.specs.Measures.{depth_of, depth_of_all};
 ghost use Rattle.lv_struct.specs.Tables.{meaning};
-ghost use Rattle.lv_struct.specs.Tuples.{tuple_eq};
-ghost use Rattle.lv_eval.specs.Truth.{truth_in, all_true_in, any_true_in, all_below, any_below, value_of, values_of, iff};
+ghost use Rattle.lv_formula.specs.Tuples.{tuple_eq};
+ghost use Rattle.lv_formula.specs.Truth.{truth_in, all_true_in, any_true_in, all_below, any_below, value_of, values_of, iff};
 
 use crate::env::Env;
 use lv_formula::{Formula, Rc, SortId, Sym, Term};

@@ -1,14 +1,11 @@
 //! The truth of a formula in a finite structure.
 //!
 //! Truth is defined by recursion on the formula, as textbooks define it, over the structure as functions
-//! and a list of values for the free variables. What follows from the definition stands in `laws`.
+//! and a list of values for the free variables; the definition stands in lv_formula.
 #![tactic(auto)]
 
 mod env;
 mod evaluate;
-pub mod laws;
-#[cfg(test)]
-mod tests;
 
 pub use env::Env;
 pub use evaluate::truth;

@@ -1,3 +1,2 @@
 pub mod PerformLaw
 pub mod RangeLaw
-pub mod SampleLaws

@@ -8,13 +8,14 @@ use Rattle.lv_formula.specs.declared.terms.Term.{Term}
 use Rattle.lv_formula.specs.declared.formula.Formula.{Formula}
 use Rattle.lv_formula.specs.Symbols.{sym_eq}
 use Rattle.lv_formula.specs.Vocabulary.{relation_in, constant_in}
-use Rattle.lv_struct.specs.Meaning.{Meaning, in_range}
+use Rattle.lv_formula.specs.Meaning.{Meaning, in_range}
 use Rattle.lv_struct.specs.Tables.{Tables, holds_in, meaning, sorts_in, sort_in, size_of, value_in}
-use Rattle.lv_struct.specs.Tuples.{tuples_over}
+use Rattle.lv_formula.specs.Tuples.{tuples_over}
 use Rattle.lv_struct.specs.Changes.{with_tuples, with_element}
 use Rattle.lv_struct.proofs.TupleLaws.{has_tuple-filter, has_tuple-tuples_over}
-use Rattle.lv_struct.proofs.MeaningLaws.{holds-with_tuples, holds-with_tuples_other, value-with_element, value-with_element_other, same_meaning}
-use Rattle.lv_eval.specs.Truth.{truth_in, value_of}
+use Rattle.lv_formula.proofs.MeaningLaws.{same_meaning}
+use Rattle.lv_struct.proofs.MeaningLaws.{holds-with_tuples, holds-with_tuples_other, value-with_element, value-with_element_other}
+use Rattle.lv_formula.specs.Truth.{truth_in, value_of}
 use Rattle.lv_system.specs.declared.parts.Parts.{Parts}
 use Rattle.lv_system.specs.declared.parts.Action.{Action}
 use Rattle.lv_system.specs.declared.parts.ActionUpdate.{ActionUpdate}

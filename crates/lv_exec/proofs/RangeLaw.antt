@@ -15,14 +15,14 @@ use Rattle.lv_formula.specs.Measures.{nodes_of, depth_of}
 use Rattle.lv_formula.specs.Vocabulary.{relation_in, constant_in}
 use Rattle.lv_formula.specs.Fits.{sort_of}
 use Rattle.lv_formula.proofs.MeasureLaws.{depth-le-nodes}
-use Rattle.lv_struct.specs.Meaning.{IsStructureOf, in_range, is_element}
+use Rattle.lv_formula.specs.Meaning.{IsStructureOf, in_range, is_element}
 use Rattle.lv_struct.specs.Tables.{IsInRange, IsSound, Tables, meaning, relation_shape, constant_shape, size_in, size_of, sorts_in, sort_in}
-use Rattle.lv_struct.specs.Tuples.{has_tuple, over, tuples_over}
+use Rattle.lv_formula.specs.Tuples.{has_tuple, over, tuples_over}
 use Rattle.lv_struct.specs.Changes.{with_tuples, with_element}
 use Rattle.lv_struct.proofs.TupleLaws.{All-from_has_tuple, has_tuple-filter, has_tuple-tuples_over}
 use Rattle.lv_struct.proofs.MeaningLaws.{structure_of, vocabulary-with_tuples, vocabulary-with_element}
-use Rattle.lv_eval.specs.Truth.{value_of}
-use Rattle.lv_eval.proofs.AgreeLaw.{element_of, same_sort}
+use Rattle.lv_formula.specs.Truth.{value_of}
+use Rattle.lv_formula.proofs.AgreeLaw.{element_of, same_sort}
 use Rattle.lv_system.specs.declared.parts.Parts.{Parts}
 use Rattle.lv_system.specs.declared.parts.Symbol.{Symbol}
 use Rattle.lv_system.specs.declared.parts.ActionUpdate.TheVariants.{Relation, Constant}

@@ -2,11 +2,11 @@
 use Rattle.std.specs.Prelude.{ℕ, Bool, List, [], ◌∷◌, ◌++◌, filter, reverse}
 use Rattle.lv_formula.specs.declared.symbols.Sym.TheVariants.{Own}
 use Rattle.lv_formula.specs.declared.formula.Formula.{Formula}
-use Rattle.lv_struct.specs.Meaning.{Meaning}
+use Rattle.lv_formula.specs.Meaning.{Meaning}
 use Rattle.lv_struct.specs.Tables.{Tables}
-use Rattle.lv_struct.specs.Tuples.{tuples_over}
+use Rattle.lv_formula.specs.Tuples.{tuples_over}
 use Rattle.lv_struct.specs.Changes.{with_tuples, with_element}
-use Rattle.lv_eval.specs.Truth.{truth_in, value_of}
+use Rattle.lv_formula.specs.Truth.{truth_in, value_of}
 use Rattle.lv_system.specs.declared.parts.Parts.{Parts}
 use Rattle.lv_system.specs.declared.parts.ActionUpdate.{ActionUpdate}
 use Rattle.lv_system.specs.declared.parts.ActionUpdate.TheVariants.{Relation, Constant}

@@ -5,7 +5,5 @@
 #![tactic(auto)]
 
 mod performing;
-#[cfg(test)]
-mod tests;
 
 pub use performing::{enabled, perform};

@@ -1,9 +1,9 @@
 ghost use Rattle.std.specs.Prelude.{◌≡◌, ◌<◌, ◌≤◌, ◌+◌, ◌-◌, ◌^◌, ◌++◌, ◌↔◌, IfOk, IsTrue, length, reverse, filter, true};
 ghost use Rattle.lv_formula.specs.Measures.{depth_of};
-ghost use Rattle.lv_struct.specs.Meaning.{in_range};
+ghost use Rattle.lv_formula.specs.Meaning.{in_range};
 ghost use Rattle.lv_struct.specs.Tables.{IsSound, meaning, size_in};
-ghost use Rattle.lv_struct.specs.Tuples.{tuples_over};
-ghost use Rattle.lv_eval.specs.Truth.{value_of};
+ghost use Rattle.lv_formula.specs.Tuples.{tuples_over};
+ghost use Rattle.lv_formula.specs.Truth.{value_of};
 ghost use Rattle.lv_system.specs.Fits.{update_fits, updates_fit, fits_parts};
 ghost use Rattle.lv_system.specs.Step.{IsAllowed, action_at, performed, sorts_at};
 ghost use Rattle.lv_system.specs.Vocabularies.{own_vocabulary};

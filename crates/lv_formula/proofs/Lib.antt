@@ -1,7 +1,11 @@
+pub mod AgreeLaw
+pub mod Below
 pub mod FitsLemmas
 pub mod Folds
 pub mod Induction
+pub mod MeaningLaws
 pub mod MeasureLaws
+pub mod Readings
 pub mod SymbolLaws
 pub mod TemporalFolds
 pub mod TemporalInduction

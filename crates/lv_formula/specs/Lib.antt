@@ -1,8 +1,13 @@
 pub mod formers
 pub mod Contexts
 pub mod Fits
+pub mod Meaning
 pub mod Measures
+pub mod Pairs
 pub mod Symbols
 pub mod TemporalFits
 pub mod TemporalMeasures
+pub mod Truth
+pub mod Tuples
+pub mod Updated
 pub mod Vocabulary

@@ -2,10 +2,14 @@
 //!
 //! A formula is a tree whose parts are shared by counted references. Contracts see the tree without
 //! the references, so two formulas are equal where their trees are.
+//!
+//! The definitions of structures as functions, of the truth of a formula in one, and of the structure after
+//! updates stand here too, since all that is said of formulas rests on them; what follows from them is in `laws`.
 #![tactic(auto)]
 
 mod build;
 mod formula;
+pub mod laws;
 mod list;
 mod lookup;
 mod memory;
@@ -15,8 +19,6 @@ mod symbols;
 mod temporal;
 mod temporal_scope;
 mod terms;
-#[cfg(test)]
-mod tests;
 mod update;
 mod vocabulary;
 

@@ -9,10 +9,10 @@ use Rattle.lv_system.specs.declared.parts.Parts.{Parts}
 use Rattle.lv_system.specs.declared.parts.LabelDecl.{LabelDecl}
 use Rattle.lv_system.specs.declared.parts.Invariant.{Invariant}
 use Rattle.lv_system.specs.InvariantWords.{invariant_vocabulary}
-use Rattle.lv_temporal.specs.declared.key.Key.{Key}
-use Rattle.lv_temporal.specs.Labels.{key_eq, keys_of, labels_of}
-use Rattle.lv_temporal.specs.Once.{is_among}
-use Rattle.lv_temporal.specs.Renaming.{free_variables}
+use Rattle.lv_labels.specs.declared.key.Key.{Key}
+use Rattle.lv_labels.specs.Labels.{key_eq, keys_of, labels_of}
+use Rattle.lv_labels.specs.Once.{is_among}
+use Rattle.lv_labels.specs.Renaming.{free_variables}
 
 -- at most four free variables each
 abbrev pub are_narrow : List Key → Bool

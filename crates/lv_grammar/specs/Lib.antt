@@ -1,6 +1,11 @@
+pub mod Grammar
+pub mod HaveWords
+pub mod LabelLimits
+pub mod Layout
+pub mod LayoutLaws
+pub mod Lifted
+pub mod ShownFormulas
+pub mod ShownSystems
+pub mod Spelling
 pub mod Trees
 pub mod Words
-pub mod Lifted
-pub mod Grammar
-pub mod LabelLimits
-pub mod Spelling

@@ -6,8 +6,8 @@ use Rattle.lv_formula.specs.declared.symbols.Sym.TheVariants.{Own, Witness, Labe
 use Rattle.lv_system.specs.declared.parts.Parts.{Parts}
 use Rattle.lv_system.specs.declared.parts.LabelDecl.{LabelDecl}
 use Rattle.lv_system.specs.Names.{same_text, is_in, are_name_bytes}
-use Rattle.lv_temporal.specs.declared.key.Key.{Key}
-use Rattle.lv_temporal.specs.Labels.{keys_of, labels_of, number_of}
+use Rattle.lv_labels.specs.declared.key.Key.{Key}
+use Rattle.lv_labels.specs.Labels.{keys_of, labels_of, number_of}
 
 -- ---- variables
 

@@ -1,5 +1,8 @@
-//! The language of systems, as relations between trees and systems: which tree spells which system.
+//! The language of systems, as relations between trees and systems: which tree spells which system, and which tree and
+//! text is its layout. What holds of a layout, such as that it spells the system again, stands in `laws`.
 //!
-//! Nothing here reads a tree. What words name, which trees spell which terms, formulas and items, and what
+//! Nothing here reads or writes a tree. What words name, which trees spell which terms, formulas and items, and what
 //! holds of a system that a text spells stand in `specs/`; the reader and the writer of texts meet them.
 #![tactic(auto)]
+
+pub mod laws;

@@ -2,14 +2,14 @@
 use Rattle.std.proofs.Common.{◌≡◌, ℕ, List}
 use Rattle.lv_tree.specs.declared.tree.Tree.{Tree}
 use Rattle.lv_system.specs.declared.parts.Parts.{Parts}
-use Rattle.lv_temporal.specs.Problem.{problem_of}
+use Rattle.lv_labels.specs.Problem.{problem_of}
 use Rattle.lv_temporal.proofs.Listed.{true_labels}
 use Rattle.lv_temporal.proofs.Scoped.{scoped}
 use Rattle.lv_grammar.specs.Spelling.{Spells, SpellsSystem}
-use Rattle.lv_oblig.specs.Obligations.{AreValid, InvariantsFit}
-use Rattle.lv_oblig.proofs.Bound.{bounded, bounded_positions}
-use Rattle.lv_oblig.proofs.ProblemFits.{kept_and_free, problem_fits}
-use Rattle.lv_oblig.proofs.Turns.{meets}
+use Rattle.lv_labels.specs.Obligations.{AreValid, InvariantsFit}
+use Rattle.lv_temporal.proofs.Bound.{bounded, bounded_positions}
+use Rattle.lv_temporal.proofs.ProblemFits.{kept_and_free, problem_fits}
+use Rattle.lv_temporal.proofs.LoopRounds.{meets}
 use Rattle.lv_headline.specs.Headline.{HoldsAtAllSizes, IsProved}
 use Rattle.lv_headline.proofs.Spoken.{invariants_stand}
 

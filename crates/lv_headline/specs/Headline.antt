@@ -3,10 +3,10 @@ use Rattle.std.specs.Prelude.{◌≡◌, ℕ, true, List}
 use Rattle.lv_tree.specs.declared.tree.Tree.{Tree}
 use Rattle.lv_system.specs.declared.parts.Parts.{Parts}
 use Rattle.lv_system.specs.Lasso.{Meets}
-use Rattle.lv_temporal.specs.Positions.{Bounded}
+use Rattle.lv_labels.specs.Positions.{Bounded}
 use Rattle.lv_grammar.specs.LabelLimits.{labels_keep_limits}
 use Rattle.lv_grammar.specs.Spelling.{Spells, SpellsSystem}
-use Rattle.lv_oblig.specs.Obligations.{AreValid, InvariantsFit}
+use Rattle.lv_labels.specs.Obligations.{AreValid, InvariantsFit}
 
 -- On each lasso run of the system, of structures of any sizes, whose loop is fair, the property holds at the start; and no
 -- labelled run of the negated property has, after a first round, more rounds than the elements touched at its end have

@@ -1,6 +1,5 @@
-//! The monitor of a labelled run: what it adds to a structure, its moves, its step, and when a structure is caught.
+//! The monitor of a labelled run: its moves. What it adds to a structure, its step, and when a structure is caught are
+//! definitions of lv_labels.
 #![tactic(auto)]
 
-mod moves;
-
-pub use moves::Move;
+pub use lv_labels::Move;

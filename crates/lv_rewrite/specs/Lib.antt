@@ -2,4 +2,3 @@ pub mod Instantiate
 pub mod Replace
 pub mod Shift
 pub mod Tables
-pub mod Updated

@@ -7,8 +7,8 @@ use Rattle.lv_tree.specs.Reading.{IsFault}
 use Rattle.lv_formula.specs.declared.memory.Memory.{Memory}
 use Rattle.lv_system.specs.declared.parts.Parts.{Parts}
 use Rattle.lv_grammar.specs.Spelling.{Spells}
-use Rattle.lv_show.specs.Words.{invariants_have_words}
-use Rattle.lv_show.proofs.SpokenParts.{spelled_has_words}
+use Rattle.lv_grammar.specs.HaveWords.{invariants_have_words}
+use Rattle.lv_grammar.proofs.SpokenParts.{spelled_has_words}
 use Rattle.lv_run.specs.declared.answer.Composed.{Composed}
 use Rattle.lv_run.specs.declared.mode.Mode.{Mode}
 use Rattle.lv_run.specs.declared.detail.Detail.{Detail}

@@ -8,7 +8,7 @@ use Rattle.lv_edge.specs.Streams.{Grows, GrowsByPart}
 use Rattle.lv_system.specs.declared.parts.Parts.{Parts}
 use Rattle.lv_run.specs.declared.detail.Detail.{Detail}
 use Rattle.lv_run.specs.declared.detail.Detail.TheVariants as D
-use Rattle.lv_show.specs.Layout.{shown_text}
+use Rattle.lv_grammar.specs.Layout.{shown_text}
 use Rattle.lv_run.specs.declared.mode.Mode.{Mode}
 use Rattle.lv_run.specs.declared.mode.Mode.TheVariants.{Prove, Show}
 use Rattle.lv_run.specs.Texts.{counter_text}

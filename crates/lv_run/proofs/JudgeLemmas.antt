@@ -11,8 +11,8 @@ use Rattle.lv_system.specs.declared.parts.Parts.{Parts}
 use Rattle.lv_system.specs.Fits.{fits_parts}
 use Rattle.lv_system.specs.Limits.{counts_fit}
 use Rattle.lv_system.proofs.FitsFacts.{FewItems, few_items}
-use Rattle.lv_temporal.specs.declared.labelling.Label.{Label}
-use Rattle.lv_temporal.specs.Table.{table_labels}
+use Rattle.lv_labels.specs.declared.labelling.Label.{Label}
+use Rattle.lv_labels.specs.Table.{table_labels}
 use Rattle.lv_run.specs.declared.judge.Judgement.{Judgement}
 use Rattle.lv_run.specs.declared.judge.Judgement.TheVariants as J
 use Rattle.lv_run.specs.declared.words.Family.{Family}

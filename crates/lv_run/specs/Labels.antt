@@ -5,8 +5,8 @@ use Rattle.lv_formula.specs.declared.formula.Formula.{Formula}
 use Rattle.lv_formula.specs.declared.formula.Formula.TheVariants as F
 use Rattle.lv_system.specs.declared.parts.Parts.{Parts}
 use Rattle.lv_system.specs.declared.parts.Fair.{Fair}
-use Rattle.lv_temporal.specs.Labels.{labels_of, reading}
-use Rattle.lv_temporal.specs.Table.{table_labels}
+use Rattle.lv_labels.specs.Labels.{labels_of, reading}
+use Rattle.lv_labels.specs.Table.{table_labels}
 
 -- the bodies of the labels of the system's table, in its order
 unfoldable pub label_bodies : Parts → List Formula

@@ -2,7 +2,7 @@
 ghost use Rattle.std.specs.Prelude.{◌≡◌, ◌≤◌, true, [], IfOk, length};
 ghost use Rattle.lv_system.specs.declared.parts.Parts.{Parts};
 ghost use Rattle.lv_grammar.specs.Spelling.{Spells};
-ghost use Rattle.lv_show.specs.Words.{invariants_have_words};
+ghost use Rattle.lv_grammar.specs.HaveWords.{invariants_have_words};
 ghost use Rattle.lv_run.specs.Answers.{IsSystemAnswer, IsRefusal, IsAnswered};
 ghost use Rattle.lv_run.specs.Calls.{told_of};
 ghost use Rattle.lv_run.specs.ErrorTexts.{error_bytes};

@@ -8,8 +8,8 @@ use crate::obligations::number_of_obligations;
 use crate::tableau::Tableau;
 use crate::texts::{counter_report, proved_report};
 use lv_formula::{List, Memory};
+use lv_labels::labels_of;
 use lv_system::System;
-use lv_temporal::labels_of;
 use std::alloc::Global;
 
 /// What a system is answered, with the report.

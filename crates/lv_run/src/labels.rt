@@ -3,8 +3,8 @@ ghost use Rattle.std.specs.Prelude.{◌≡◌, ◌<◌, ◌^◌, ◌++◌, IfOk,
 ghost use Rattle.lv_run.specs.Labels.{label_atom, justice_condition, label_justice, conditions};
 
 use lv_formula::{Formula, Memory, Sym, Terms};
+use lv_labels::Label;
 use lv_system::{Fair, Parts};
-use lv_temporal::Label;
 use std::alloc::Global;
 
 /// The bodies of the labels, in order.

@@ -29,6 +29,3 @@ pub use call::{Report, run};
 pub use detail::Detail;
 pub use mode::Mode;
 pub use which::{Move, Which};
-
-#[cfg(test)]
-mod tests;

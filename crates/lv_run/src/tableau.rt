@@ -1,13 +1,13 @@
 //! What the obligations of a system are made of.
 ghost use Rattle.std.specs.Prelude.{◌≡◌, ◌≤◌, IfOk, length};
-ghost use Rattle.lv_temporal.specs.Labels.{labels_of};
-ghost use Rattle.lv_temporal.specs.Table.{table_labels};
+ghost use Rattle.lv_labels.specs.Labels.{labels_of};
+ghost use Rattle.lv_labels.specs.Table.{table_labels};
 ghost use Rattle.lv_run.specs.Labels.{label_bodies, property_reading, justice_of};
 
 use crate::labels::{bodies, justice};
 use lv_formula::{Formula, Memory};
+use lv_labels::{LabelTable, reading};
 use lv_system::{Parts, System};
-use lv_temporal::{LabelTable, reading};
 use std::alloc::Global;
 
 /// A system with its table of labels, their bodies, its justice conditions and the reading of its property.

@@ -17,18 +17,18 @@ use Rattle.lv_system.specs.declared.parts.Parts.{Parts}
 use Rattle.lv_system.specs.declared.parts.LabelDecl.{LabelDecl}
 use Rattle.lv_system.specs.Fits.{is_always_step, is_always, label_fits, labels_fit, fits_parts}
 use Rattle.lv_system.proofs.FitsFacts.{fit_label}
-use Rattle.lv_temporal.specs.declared.key.Key.{Key}
-use Rattle.lv_temporal.specs.declared.labelling.Label.{Label}
-use Rattle.lv_temporal.specs.Once.{is_among, once_behind, each_once, place_of}
-use Rattle.lv_temporal.specs.Labels.{key_eq, key_of, plain, keys_of, keys_of_labels, keys_of_witnesses, labels_of, number_of, no_key}
-use Rattle.lv_temporal.specs.Table.{own_key, name_among, label_row, table_labels}
-use Rattle.lv_temporal.proofs.LabelsAt.{keys-Always}
-use Rattle.lv_temporal.proofs.Once.{Decides}
-use Rattle.lv_temporal.proofs.Sameness.{key_decides}
-use Rattle.lv_temporal.proofs.Table.{IsIn, EachPart, each_in}
+use Rattle.lv_labels.specs.declared.key.Key.{Key}
+use Rattle.lv_labels.specs.declared.labelling.Label.{Label}
+use Rattle.lv_labels.specs.Once.{is_among, once_behind, each_once, place_of}
+use Rattle.lv_labels.specs.Labels.{key_eq, key_of, plain, keys_of, keys_of_labels, keys_of_witnesses, labels_of, number_of, no_key}
+use Rattle.lv_labels.specs.Table.{own_key, name_among, label_row, table_labels}
+use Rattle.lv_labels.proofs.LabelsAt.{keys-Always}
+use Rattle.lv_labels.proofs.Once.{Decides}
+use Rattle.lv_labels.proofs.Sameness.{key_decides}
+use Rattle.lv_labels.proofs.Table.{IsIn, EachPart, each_in}
 use Rattle.lv_grammar.specs.Words.{has_number, declared_name, label_name, name_or_number, label_word}
 use Rattle.lv_show.specs.Tables.{IsTable, named_by, row_declaration, declaration_in}
-use Rattle.lv_show.proofs.Small.{fit}
+use Rattle.lv_grammar.proofs.FittingParts.{fit}
 
 -- ---- each item of a list in which each counts once stands at its place
 

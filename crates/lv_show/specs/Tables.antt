@@ -5,8 +5,8 @@ use Rattle.std.specs.declared.option.Option.TheVariants.{Some, None}
 use Rattle.lv_system.specs.declared.parts.Parts.{Parts}
 use Rattle.lv_system.specs.declared.parts.LabelDecl.{LabelDecl}
 use Rattle.lv_system.specs.Fits.{fits_parts}
-use Rattle.lv_temporal.specs.declared.labelling.Label.{Label}
-use Rattle.lv_temporal.specs.Table.{table_labels}
+use Rattle.lv_labels.specs.declared.labelling.Label.{Label}
+use Rattle.lv_labels.specs.Table.{table_labels}
 
 -- the labels are those of the system, whose parts fit
 pub record IsTable (p : Parts) (labels : List Label) : Type 0 where

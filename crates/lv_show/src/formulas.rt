@@ -1,7 +1,7 @@
 //! The trees that are shown for terms and formulas.
 ghost use Rattle.std.specs.Prelude.{◌≡◌, ◌∷◌, ◌++◌, [], List, map, codes, IfOk, OnOk};
 ghost use Rattle.lv_grammar.specs.Words.{sort_name, symbol_word};
-ghost use Rattle.lv_show.specs.Formulas.{word, list, variable_name, deeper, shown_term, shown_atom, shown_temporal, shown_temporals, shown_formula, shown_formulas};
+ghost use Rattle.lv_grammar.specs.ShownFormulas.{word, list, variable_name, deeper, shown_term, shown_atom, shown_temporal, shown_temporals, shown_formula, shown_formulas};
 ghost use Rattle.lv_show.specs.Tables.{IsTable};
 
 use crate::trees::{eventually, list, many, pair, triple, variable, word};

@@ -3,8 +3,8 @@ ghost use Rattle.std.specs.Prelude.{◌≡◌, ◌∷◌, ◌++◌, [], ℕ, Lis
 ghost use Rattle.lv_tree.specs.declared.tree.Tree.{Tree};
 ghost use Rattle.lv_system.specs.declared.parts.Parts.{Parts};
 ghost use Rattle.lv_grammar.specs.Grammar.{argument_sorts, in_order};
-ghost use Rattle.lv_show.specs.Formulas.{word, list, variable_name, deeper, shown_term, shown_temporal, shown_formula};
-ghost use Rattle.lv_show.specs.Systems.{shown_mark, shown_sort, shape_word, shown_sort_name, shown_shape, shown_symbol, shown_pairs, shown_names, shown_parameters, shown_lone, shown_setting, shown_update, shown_action, shown_declaration, shown_fair, shown_label, shown_witness, shown_property, shown_invariant, shown_items};
+ghost use Rattle.lv_grammar.specs.ShownFormulas.{word, list, variable_name, deeper, shown_term, shown_temporal, shown_formula};
+ghost use Rattle.lv_grammar.specs.ShownSystems.{shown_mark, shown_sort, shape_word, shown_sort_name, shown_shape, shown_symbol, shown_pairs, shown_names, shown_parameters, shown_lone, shown_setting, shown_update, shown_action, shown_declaration, shown_fair, shown_label, shown_witness, shown_property, shown_invariant, shown_items};
 ghost use Rattle.lv_show.specs.Tables.{IsTable};
 
 use crate::formulas::{formula, temporal, term};
@@ -342,7 +342,7 @@ fn push_lones(
 }
 
 /// Adds the trees of what stays: sorts, symbols, axioms and initial conditions.
-#[tactic(auto, using(crate::proofs::LayoutLaw::behind_four))]
+#[tactic(auto, using(lv_grammar::proofs::LayoutLaw::behind_four))]
 fn push_declared(alloc: Global, trees: &mut Vec<Tree>, words: &Words) -> Result<(), Memory>
     requires { IsTable words.now.parts.now words.now.labels.now }
     ensures { OnOk result (trees.new.items ≡ trees.old.items ++ (map shown_sort words.now.parts.now.sorts ++ (map (shown_symbol words.now.parts.now) words.now.parts.now.symbols

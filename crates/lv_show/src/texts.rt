@@ -3,20 +3,20 @@ ghost use Rattle.std.specs.Prelude.{◌≡◌, ◌++◌, true, List, codes, IfOk
 ghost use Rattle.lv_tree.specs.declared.tree.Tree.{Tree};
 ghost use Rattle.lv_tree.specs.Spelling.{fits_in, all_fit_in};
 ghost use Rattle.lv_tree.specs.Writing.{written};
-ghost use Rattle.lv_temporal.specs.Table.{table_labels};
+ghost use Rattle.lv_labels.specs.Table.{table_labels};
 ghost use Rattle.lv_grammar.specs.Words.{symbol_word};
 ghost use Rattle.lv_grammar.specs.Spelling.{SpellsSystem, Spells};
-ghost use Rattle.lv_show.specs.Formulas.{shown_formula};
-ghost use Rattle.lv_show.specs.Words.{invariants_have_words};
-ghost use Rattle.lv_show.specs.Systems.{shown_items};
-ghost use Rattle.lv_show.specs.Layout.{in_lines, shown_text};
+ghost use Rattle.lv_grammar.specs.ShownFormulas.{shown_formula};
+ghost use Rattle.lv_grammar.specs.HaveWords.{invariants_have_words};
+ghost use Rattle.lv_grammar.specs.ShownSystems.{shown_items};
+ghost use Rattle.lv_grammar.specs.Layout.{in_lines, shown_text};
 
 use crate::formulas::formula;
 use crate::items::items;
 use crate::words::{Words, symbol_word};
 use lv_formula::{Formula, Memory, Sym};
+use lv_labels::{LabelTable, labels_of};
 use lv_system::System;
-use lv_temporal::{LabelTable, labels_of};
 use lv_tree::{List, Text, Tree, write_tree};
 use std::alloc::Global;
 
@@ -32,7 +32,7 @@ fn line(alloc: Global, tree: &Tree) -> Result<List<u8>, Memory>
 }
 
 /// Adds the lines of the trees, each behind a newline and two spaces.
-#[tactic(auto, using(crate::proofs::LayoutLaw::next_fits))]
+#[tactic(auto, using(lv_grammar::proofs::LayoutLaw::next_fits))]
 fn push_lines(alloc: Global, text: &mut Vec<u8>, trees: &[Tree]) -> Result<(), Memory>
     requires { IsTrue (all_fit_in 64 trees.now) }
     ensures { OnOk result (text.new.items ≡ text.old.items ++ in_lines trees.now) }

@@ -1,6 +1,6 @@
 //! Trees without places: words, lists, variables.
 ghost use Rattle.std.specs.Prelude.{◌≡◌, ◌∷◌, ◌++◌, [], List, codes, IfOk};
-ghost use Rattle.lv_show.specs.Formulas.{word, list, variable_name};
+ghost use Rattle.lv_grammar.specs.ShownFormulas.{word, list, variable_name};
 
 use itoa::Buffer;
 use lv_formula::Memory;

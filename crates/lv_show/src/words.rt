@@ -5,8 +5,8 @@ ghost use Rattle.lv_show.specs.Tables.{IsTable, named_by, declaration_in};
 
 use itoa::Buffer;
 use lv_formula::{Memory, SortId, Sym};
+use lv_labels::Label;
 use lv_system::{Fair, LabelDecl, Parts, Sort, Symbol, WitnessDecl};
-use lv_temporal::Label;
 use lv_tree::{List, Text};
 use std::alloc::Global;
 

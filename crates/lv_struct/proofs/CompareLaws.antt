@@ -12,7 +12,7 @@ use Rattle.lv_struct.specs.declared.tables.Relation.{Relation}
 use Rattle.lv_struct.specs.declared.tables.Constant.{Constant}
 use Rattle.lv_struct.specs.Compare.{IsSame, IsSameRelation, constant_eq, has_constant_shape, has_relation_shape, has_vocabulary, relation_eq, sort_eq, tables_eq}
 use Rattle.lv_struct.specs.Tables.{Tables, HasVocabulary, relation_shape, constant_shape}
-use Rattle.lv_struct.specs.Tuples.{all_among, has_tuple, pairwise, tuple_eq}
+use Rattle.lv_formula.specs.Tuples.{all_among, has_tuple, pairwise, tuple_eq}
 use Rattle.lv_struct.proofs.PairLaws.{pairs_from_test, test_from_pairs, test_tells_mapped, test_tells_equal}
 
 number_tells : (a b : ℕ) → (eqb a b ≡ true) ↔ (a ≡ b)

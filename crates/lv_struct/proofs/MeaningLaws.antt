@@ -1,4 +1,4 @@
--- Structures as functions: when two are equal, and what the functions of a structure's tables meet.
+-- Structures as data: when their functions are equal, and what the functions of a structure's tables meet.
 use Rattle.std.proofs.Common.{◌≡◌, ℕ, ◌<◌, false, cond, List, [], ◌∷◌, length, map, Some, refl, sym, ap, ap₂, subst, ◌∙◌, ⊎_elim}
 use Rattle.std.specs.List.{All, AllZip}
 use Rattle.std.proofs.lemmas.Bool.{cases_Bool, cond_both, cond-true, cond-false}
@@ -14,14 +14,11 @@ use Rattle.lv_struct.specs.declared.tables.Relation.{Relation}
 use Rattle.lv_struct.specs.declared.tables.Constant.{Constant}
 use Rattle.lv_struct.specs.Changes.{empty_relation, empty_structure, first_element, put_element, put_tuples, with_element, with_tuples}
 use Rattle.lv_struct.specs.Compare.{IsSame, IsSameRelation}
-use Rattle.lv_struct.specs.Meaning.{IsStructureOf, Meaning}
+use Rattle.lv_formula.specs.Meaning.{IsStructureOf, Meaning}
 use Rattle.lv_struct.specs.Tables.{HasVocabulary, IsConstantSound, IsSound, Tables, constant_shape, element_in, holds_in, meaning, relation_shape, size_of, sort_in, sorts_in, tuples_in, value_in}
-use Rattle.lv_struct.specs.Tuples.{has_tuple}
+use Rattle.lv_formula.specs.Tuples.{has_tuple}
+use Rattle.lv_formula.proofs.MeaningLaws.{same_meaning}
 use Rattle.lv_struct.proofs.ChangeLaws.{map-after, size_positive}
-
--- Functions that agree everywhere are one meaning.
-pub same_meaning : (m n : Meaning) → ((s : SortId) → m.size s ≡ n.size s) → ((r : Sym) (tuple : List ℕ) → m.holds r tuple ≡ n.holds r tuple) → ((c : Sym) → m.value c ≡ n.value c) → m ≡ n
-same_meaning m n sizes holds values = λ i. record { size = λ s. sizes s i; holds = λ r tuple. holds r tuple i; value = λ c. values c i }
 
 -- Structures that are the same as data, up to the order of tuples, are the same as functions.
 same_tuples : (rs qs : List Relation) → AllZip IsSameRelation rs qs → (r : Sym) (tuple : List ℕ) → has_tuple (tuples_in rs r) tuple ≡ has_tuple (tuples_in qs r) tuple

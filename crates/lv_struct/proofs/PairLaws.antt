@@ -3,7 +3,7 @@ use Rattle.std.proofs.Common.{◌≡◌, ◌↔◌, suc, Bool, true, false, List
 use Rattle.std.proofs.Math.Bool.{and-false}
 use Rattle.std.proofs.lemmas.Bool.{and_parts, and_from}
 use Rattle.std.specs.List.{AllZip}
-use Rattle.lv_struct.specs.Tuples.{pairwise}
+use Rattle.lv_formula.specs.Tuples.{pairwise}
 
 pub lengths_differ : {X Y : Type 0} (p : X → Y → Bool) (xs : List X) (ys : List Y) → (length xs ≡ length ys → ⊥) → pairwise p xs ys ≡ false
 lengths_differ p [] [] h = absurd (h refl)

@@ -13,9 +13,9 @@ use Rattle.lv_formula.specs.Vocabulary.{constant_in, relation_in, symbols_of}
 use Rattle.lv_formula.proofs.SymbolLaws.{sym_eq-refl, sym_eq-true}
 use Rattle.lv_struct.specs.declared.tables.Relation.{Relation}
 use Rattle.lv_struct.specs.declared.tables.Constant.{Constant}
-use Rattle.lv_struct.specs.Meaning.{AgreeOn, IsStructureOf, Meaning, in_range}
+use Rattle.lv_formula.specs.Meaning.{AgreeOn, IsStructureOf, Meaning, in_range}
 use Rattle.lv_struct.specs.Tables.{HasVocabulary, IsConstantSound, IsRelationSound, IsSound, Tables, constant_shape, element_in, holds_in, meaning, relation_shape, size_of, tuples_in, value_in}
-use Rattle.lv_struct.specs.Tuples.{has_tuple, over, tuples_over}
+use Rattle.lv_formula.specs.Tuples.{has_tuple, over, tuples_over}
 use Rattle.lv_struct.proofs.TupleLaws.{All-from_has_tuple, has_tuple-filter, has_tuple-tuples_over}
 
 -- the sizes of the sorts from n on, so many

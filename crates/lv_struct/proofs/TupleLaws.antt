@@ -7,7 +7,7 @@ use Rattle.std.proofs.lemmas.List.Elements.{All-nil, All-cons, All-head, All-tai
 use Rattle.std.proofs.lemmas.List.Kept.{AllPairs-cons}
 use Rattle.lv_formula.specs.declared.symbols.SortId.{SortId}
 use Rattle.lv_struct.proofs.CompareLaws.{tuple_tells}
-use Rattle.lv_struct.specs.Tuples.{each_before, has_tuple, over, tuple_eq, tuple_lt, tuples_over}
+use Rattle.lv_formula.specs.Tuples.{each_before, has_tuple, over, tuple_eq, tuple_lt, tuples_over}
 
 or_assoc : (a b c : Bool) → (a || (b || c)) ≡ ((a || b) || c)
 or_assoc true b c = refl

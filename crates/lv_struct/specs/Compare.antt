@@ -9,7 +9,7 @@ use Rattle.lv_formula.specs.Symbols.{sym_eq}
 use Rattle.lv_struct.specs.declared.tables.Relation.{Relation}
 use Rattle.lv_struct.specs.declared.tables.Constant.{Constant}
 use Rattle.lv_struct.specs.Tables.{Tables}
-use Rattle.lv_struct.specs.Tuples.{all_among, has_tuple, pairwise, tuple_eq}
+use Rattle.lv_formula.specs.Tuples.{all_among, has_tuple, pairwise, tuple_eq}
 
 -- one name, the same sorts, and the same tuples as sets
 pub record IsSameRelation (r q : Relation) : Type 0 where

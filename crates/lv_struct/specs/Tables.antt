@@ -9,8 +9,8 @@ use Rattle.lv_formula.specs.Symbols.{sym_eq}
 use Rattle.lv_formula.specs.Vocabulary.{relation_in, constant_in}
 use Rattle.lv_struct.specs.declared.tables.Relation.{Relation}
 use Rattle.lv_struct.specs.declared.tables.Constant.{Constant}
-use Rattle.lv_struct.specs.Meaning.{Meaning}
-use Rattle.lv_struct.specs.Tuples.{has_tuple, over}
+use Rattle.lv_formula.specs.Meaning.{Meaning}
+use Rattle.lv_formula.specs.Tuples.{has_tuple, over}
 
 pub record Tables : Type 0 where
   pub sizes : List ℕ

@@ -1,7 +1,7 @@
 //! Comparison of lists, place by place.
 ghost use Rattle.std.specs.Prelude.{◌≡◌, Bool, eqb};
 ghost use Rattle.lv_struct.specs.Compare.{constant_eq, has_constant_shape, has_relation_shape, relation_eq, sort_eq};
-ghost use Rattle.lv_struct.specs.Tuples.{pairwise};
+ghost use Rattle.lv_formula.specs.Tuples.{pairwise};
 
 use crate::tables::{Constant, Relation};
 use crate::tuples::are_among;

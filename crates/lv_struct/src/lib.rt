@@ -9,8 +9,6 @@ mod changes;
 mod compare;
 mod structure;
 mod tables;
-#[cfg(test)]
-mod tests;
 mod tuples;
 
 pub use structure::Structure;

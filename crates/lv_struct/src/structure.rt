@@ -3,9 +3,9 @@ ghost use Rattle.std.specs.Option.{ForSome};
 ghost use Rattle.lv_formula.specs.Vocabulary as vocabularies;
 ghost use Rattle.lv_struct.specs.Changes.{empty_structure, with_tuples, with_element};
 ghost use Rattle.lv_struct.specs.Compare.{IsSame, has_vocabulary, tables_eq};
-ghost use Rattle.lv_struct.specs.Meaning.{in_range};
+ghost use Rattle.lv_formula.specs.Meaning.{in_range};
 ghost use Rattle.lv_struct.specs.Tables.{HasVocabulary, IsInRange, IsSound, holds_in, meaning, size_in, size_of, sort_in, sorts_in, tuples_in, value_in};
-ghost use Rattle.lv_struct.specs.Tuples.{has_tuple, tuple_lt, tuples_over};
+ghost use Rattle.lv_formula.specs.Tuples.{has_tuple, tuple_lt, tuples_over};
 
 use crate::changes::{copy_relations, empty_relations, first_elements, put_constant, put_relation};
 use crate::compare::pair_up;

@@ -1,6 +1,6 @@
 //! Tuples and lists of tuples.
 ghost use Rattle.std.specs.Prelude.{◌≡◌, ◌++◌, ◌∷◌, [], IfOk, OnOk, map};
-ghost use Rattle.lv_struct.specs.Tuples.{has_tuple, all_among, each_before};
+ghost use Rattle.lv_formula.specs.Tuples.{has_tuple, all_among, each_before};
 
 use crate::compare::pair_up;
 use lv_formula::{List, Memory};

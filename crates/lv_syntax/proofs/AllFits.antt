@@ -6,7 +6,7 @@ use Rattle.lv_system.specs.Fits.{shapes_fit, axioms_fit, inits_fit, actions_fit,
 use Rattle.lv_system.specs.Limits.{counts_fit}
 use Rattle.lv_system.specs.Names.{names_fit}
 use Rattle.lv_system.proofs.FitsFacts.{FewItems, few_items}
-use Rattle.lv_temporal.specs.Labels.{labels_of}
+use Rattle.lv_labels.specs.Labels.{labels_of}
 use Rattle.lv_grammar.specs.LabelLimits.{are_narrow, declared_keys, all_differ, list_free, invariants_fit_in, spoken_vocabulary, labels_keep_limits}
 use Rattle.lv_syntax.proofs.WordKinds.{and_first, and_second}
 

@@ -12,8 +12,8 @@ use Rattle.lv_system.specs.InvariantWords.{is_changing}
 use Rattle.lv_system.specs.Lookups.{invariant_relation, invariant_constant, params_of, one_if, witness_sort}
 use Rattle.lv_system.specs.Names.{is_name, are_names, names_fit}
 use Rattle.lv_system.specs.Vocabularies.{any_symbol}
-use Rattle.lv_temporal.specs.declared.key.Key.{Key}
-use Rattle.lv_temporal.specs.Labels.{labels_of}
+use Rattle.lv_labels.specs.declared.key.Key.{Key}
+use Rattle.lv_labels.specs.Labels.{labels_of}
 use Rattle.lv_grammar.specs.Words as Words
 use Rattle.lv_grammar.specs.Words.{Variable, symbol_word, is_spoken, name_or_number, label_word, justice_name}
 use Rattle.lv_grammar.specs.LabelLimits.{spoken_vocabulary}

@@ -12,8 +12,8 @@ use Rattle.lv_formula.specs.TemporalFits.{temporal_fits_in, temporal_fits_step, 
 use Rattle.lv_formula.proofs.TemporalFolds as Folds
 use Rattle.lv_formula.proofs.Induction.{Each}
 use Rattle.lv_formula.proofs.TemporalInduction.{Cases, by_cases}
-use Rattle.lv_temporal.specs.Once.{is_among, once_behind}
-use Rattle.lv_temporal.specs.Renaming.{term_variables, terms_variables, outside, occurrences_of, occurrences_of_all, free_variables}
+use Rattle.lv_labels.specs.Once.{is_among, once_behind}
+use Rattle.lv_labels.specs.Renaming.{term_variables, terms_variables, outside, occurrences_of, occurrences_of_all, free_variables}
 use Rattle.lv_grammar.specs.LabelLimits.{numbers_eq, parameter_numbers}
 use Rattle.lv_syntax.specs.Labelling.{free_name}
 use Rattle.lv_syntax.proofs.Steps.{done, passed}

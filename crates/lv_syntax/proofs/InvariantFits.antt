@@ -17,8 +17,8 @@ use Rattle.lv_formula.proofs.Induction.{Cases, Each, by_cases}
 use Rattle.lv_formula.proofs.SymbolLaws.{sym_eq-true}
 use Rattle.lv_system.specs.declared.parts.Parts.{Parts}
 use Rattle.lv_system.specs.InvariantWords.{invariant_vocabulary, invariant_relations, is_label_word}
-use Rattle.lv_temporal.specs.declared.key.Key.{Key}
-use Rattle.lv_temporal.specs.Labels.{labels_of}
+use Rattle.lv_labels.specs.declared.key.Key.{Key}
+use Rattle.lv_labels.specs.Labels.{labels_of}
 use Rattle.lv_grammar.specs.LabelLimits.{label_shapes, label_relations, spoken_vocabulary}
 
 -- relations that aren't named so change nothing behind others

@@ -20,8 +20,8 @@ use Rattle.lv_system.specs.Vocabularies.{fixed_vocabulary, own_vocabulary, witne
 use Rattle.lv_system.specs.Limits.{is_small, in_item}
 use Rattle.lv_system.specs.Fits.{is_sort_below, params_fit, shape_fits, formula_fits, temporal_fits, fair_fits, is_always, label_fits, witness_fits, invariant_fits}
 use Rattle.lv_system.specs.TemporalLimits.{is_small_temporal}
-use Rattle.lv_temporal.specs.declared.key.Key.{Key}
-use Rattle.lv_temporal.specs.Renaming.{free_variables}
+use Rattle.lv_labels.specs.declared.key.Key.{Key}
+use Rattle.lv_labels.specs.Renaming.{free_variables}
 use Rattle.lv_grammar.specs.Grammar.{IsList, IsLone, IsSort, relation, constant, IsDeclared, IsFair, IsLabel, IsWitness, IsProperty, IsInvariant, no_pairs, pairs, AreParameters}
 use Rattle.lv_grammar.specs.LabelLimits.{numbers_eq, parameter_numbers, lists_free, spoken_vocabulary}
 use Rattle.lv_grammar.specs.Words.{is_new_variable}

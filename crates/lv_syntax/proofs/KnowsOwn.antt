@@ -11,7 +11,7 @@ use Rattle.lv_system.specs.declared.parts.Symbol.{Symbol}
 use Rattle.lv_system.specs.declared.parts.Shape.{Shape}
 use Rattle.lv_system.specs.declared.parts.Shape.TheVariants as S
 use Rattle.lv_system.specs.declared.parts.WitnessDecl.{WitnessDecl}
-use Rattle.lv_temporal.specs.declared.key.Key.{Key}
+use Rattle.lv_labels.specs.declared.key.Key.{Key}
 use Rattle.lv_system.specs.Vocabularies.{any_symbol, is_fixed, fixed_vocabulary, own_vocabulary, witness_vocabulary}
 use Rattle.lv_system.proofs.LookupLaws.{own_relation_told, own_constant_told, witness_constant_told}
 use Rattle.lv_grammar.specs.Grammar.{IsWord}

@@ -8,10 +8,10 @@ use Rattle.lv_formula.proofs.TemporalFolds as Folds
 use Rattle.lv_system.specs.declared.parts.Parts.{Parts}
 use Rattle.lv_system.specs.declared.parts.LabelDecl.{LabelDecl}
 use Rattle.lv_system.specs.Fits.{temporal_fits, is_always}
-use Rattle.lv_temporal.specs.declared.key.Key.{Key}
-use Rattle.lv_temporal.specs.Labels.{key_eq, keys_of, labels_of, number_of}
-use Rattle.lv_temporal.specs.Once.{is_among, once_behind}
-use Rattle.lv_temporal.specs.Renaming.{free_variables}
+use Rattle.lv_labels.specs.declared.key.Key.{Key}
+use Rattle.lv_labels.specs.Labels.{key_eq, keys_of, labels_of, number_of}
+use Rattle.lv_labels.specs.Once.{is_among, once_behind}
+use Rattle.lv_labels.specs.Renaming.{free_variables}
 use Rattle.lv_grammar.specs.LabelLimits.{are_narrow, numbers_eq, parameter_numbers, lists_free}
 use Rattle.lv_grammar.specs.Words.{Variable}
 use Rattle.lv_grammar.specs.Grammar.{IsWord, IsList, IsFormula, truth, falsity, bare_atom, atom, equation, negation, conjunction, disjunction, implication, equivalence, universal, existential, always, eventually}

@@ -4,9 +4,9 @@ use Rattle.std.proofs.lemmas.Bool.{eq-eqb}
 use Rattle.lv_formula.specs.declared.temporal.Temporal.{Temporal}
 use Rattle.lv_system.specs.declared.parts.Parts.{Parts}
 use Rattle.lv_system.specs.declared.parts.LabelDecl.{LabelDecl}
-use Rattle.lv_temporal.specs.declared.key.Key.{Key}
-use Rattle.lv_temporal.specs.Labels.{key_eq, keys_of, keys_of_labels, keys_of_witnesses, labels_of, number_of}
-use Rattle.lv_temporal.specs.Once.{is_among, each_once, place_of}
+use Rattle.lv_labels.specs.declared.key.Key.{Key}
+use Rattle.lv_labels.specs.Labels.{key_eq, keys_of, keys_of_labels, keys_of_witnesses, labels_of, number_of}
+use Rattle.lv_labels.specs.Once.{is_among, each_once, place_of}
 use Rattle.lv_grammar.specs.LabelLimits.{are_narrow}
 use Rattle.lv_grammar.specs.Words.{has_number, declared_name, label_name}
 use Rattle.lv_syntax.specs.declared.draft.Draft.{Draft}

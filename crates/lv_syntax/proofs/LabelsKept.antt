@@ -10,9 +10,9 @@ use Rattle.lv_formula.proofs.TemporalInduction.{Cases, by_cases}
 use Rattle.lv_system.specs.declared.parts.LabelDecl.{LabelDecl}
 use Rattle.lv_system.specs.declared.parts.WitnessDecl.{WitnessDecl}
 use Rattle.lv_system.specs.Fits.{is_always, is_always_step}
-use Rattle.lv_temporal.specs.declared.key.Key.{Key}
-use Rattle.lv_temporal.specs.Labels.{key_eq, key_of, plain, Labelled, labelled_step, keys_of, keys_of_labels, keys_of_witnesses, number_of}
-use Rattle.lv_temporal.specs.Once.{is_among, once_behind, each_once, place_of}
+use Rattle.lv_labels.specs.declared.key.Key.{Key}
+use Rattle.lv_labels.specs.Labels.{key_eq, key_of, plain, Labelled, labelled_step, keys_of, keys_of_labels, keys_of_witnesses, number_of}
+use Rattle.lv_labels.specs.Once.{is_among, once_behind, each_once, place_of}
 use Rattle.lv_grammar.specs.Words.{Variable}
 use Rattle.lv_grammar.specs.LabelLimits.{are_narrow, declared_keys, all_differ}
 use Rattle.lv_syntax.specs.declared.draft.Draft.{Draft}

@@ -12,9 +12,9 @@ use Rattle.lv_system.specs.declared.parts.Invariant.{Invariant}
 use Rattle.lv_system.specs.Fits.{params_fit, is_sort_below, is_always, label_fits, labels_fit, witness_fits, witnesses_fit, invariant_fits, invariants_fit}
 use Rattle.lv_system.specs.Limits.{is_small, in_item}
 use Rattle.lv_system.specs.Vocabularies.{own_vocabulary, witness_vocabulary}
-use Rattle.lv_temporal.specs.declared.key.Key.{Key}
-use Rattle.lv_temporal.specs.Labels.{key_eq, labels_of}
-use Rattle.lv_temporal.specs.Once.{once_behind}
+use Rattle.lv_labels.specs.declared.key.Key.{Key}
+use Rattle.lv_labels.specs.Labels.{key_eq, labels_of}
+use Rattle.lv_labels.specs.Once.{once_behind}
 use Rattle.lv_grammar.specs.LabelLimits.{declared_keys, all_differ, lists_free, list_free, invariants_fit_in, spoken_vocabulary}
 use Rattle.lv_grammar.specs.Words.{Variable, is_variable, is_new_variable, are_new_variables, sort_name}
 use Rattle.lv_grammar.specs.Grammar.{IsWord, IsList, IsFormula, ArePairs, no_pairs, pairs, AreParameters, IsLabel, IsWitness, IsProperty, IsInvariant}

@@ -13,7 +13,7 @@ use Rattle.lv_system.specs.declared.parts.WitnessDecl.{WitnessDecl}
 use Rattle.lv_system.specs.declared.parts.Invariant.{Invariant}
 use Rattle.lv_system.specs.Names.{same_text, is_name, are_names, occurrences, each_stands_once, names_of, names_fit}
 use Rattle.lv_system.proofs.NameLaws.{names_parted, occurrences_summed}
-use Rattle.lv_temporal.specs.declared.key.Key.{Key}
+use Rattle.lv_labels.specs.declared.key.Key.{Key}
 use Rattle.lv_syntax.specs.declared.draft.Draft.{Draft}
 use Rattle.lv_syntax.specs.declared.draft.Role.TheVariants as R
 use Rattle.lv_syntax.specs.declared.items.ItemKind.{ItemKind}

@@ -12,8 +12,8 @@ use Rattle.lv_formula.specs.declared.temporal.Temporal.TheVariants as T
 use Rattle.lv_formula.specs.TemporalMeasures.{temporal_nodes_of}
 use Rattle.lv_formula.proofs.TemporalFolds as Folds
 use Rattle.lv_system.specs.Names.{same_text}
-use Rattle.lv_temporal.specs.declared.key.Key.{Key}
-use Rattle.lv_temporal.specs.Labels.{Labelled, labelled_step, keys_of, keys_of_all}
+use Rattle.lv_labels.specs.declared.key.Key.{Key}
+use Rattle.lv_labels.specs.Labels.{Labelled, labelled_step, keys_of, keys_of_all}
 use Rattle.lv_grammar.specs.Trees as Trees
 use Rattle.lv_grammar.specs.Grammar.{IsWord}
 use Rattle.lv_grammar.specs.Words.{Variable}

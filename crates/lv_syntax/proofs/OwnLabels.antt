@@ -10,9 +10,9 @@ use Rattle.lv_system.specs.declared.parts.Parts.{Parts}
 use Rattle.lv_system.specs.declared.parts.LabelDecl.{LabelDecl}
 use Rattle.lv_system.specs.declared.parts.WitnessDecl.{WitnessDecl}
 use Rattle.lv_system.specs.Fits.{params_fit, is_always, label_fits, labels_fit}
-use Rattle.lv_temporal.specs.declared.key.Key.{Key}
-use Rattle.lv_temporal.specs.Labels.{Labelled, labelled_step, key_eq, key_of, plain, keys_of, keys_of_labels, keys_of_witnesses, labels_of, number_of}
-use Rattle.lv_temporal.specs.Once.{is_among, once_behind}
+use Rattle.lv_labels.specs.declared.key.Key.{Key}
+use Rattle.lv_labels.specs.Labels.{Labelled, labelled_step, key_eq, key_of, plain, keys_of, keys_of_labels, keys_of_witnesses, labels_of, number_of}
+use Rattle.lv_labels.specs.Once.{is_among, once_behind}
 use Rattle.lv_grammar.specs.LabelLimits.{declared_keys, all_differ}
 use Rattle.lv_grammar.specs.Words.{has_number, declared_name}
 use Rattle.lv_syntax.specs.Labelling.{own_number}

@@ -11,8 +11,8 @@ use Rattle.lv_system.specs.declared.parts.Parts.{Parts}
 use Rattle.lv_system.specs.InvariantWords.{invariant_relations}
 use Rattle.lv_system.specs.Lookups.{invariant_relation, invariant_constant}
 use Rattle.lv_system.proofs.LookupLaws.{Numbered, value_at, named, other, invariant_relation_told, invariant_constant_told}
-use Rattle.lv_temporal.specs.declared.key.Key.{Key}
-use Rattle.lv_temporal.specs.Labels.{labels_of}
+use Rattle.lv_labels.specs.declared.key.Key.{Key}
+use Rattle.lv_labels.specs.Labels.{labels_of}
 use Rattle.lv_syntax.specs.Words.{or_else}
 use Rattle.lv_grammar.specs.LabelLimits.{label_shapes, label_relations, spoken_vocabulary}
 

@@ -14,9 +14,9 @@ use Rattle.lv_system.specs.declared.parts.LabelDecl.{LabelDecl}
 use Rattle.lv_system.specs.declared.parts.WitnessDecl.{WitnessDecl}
 use Rattle.lv_system.specs.declared.parts.Invariant.{Invariant}
 use Rattle.lv_system.specs.Names.{is_name, are_names, names_fit}
-use Rattle.lv_temporal.specs.declared.key.Key.{Key}
-use Rattle.lv_temporal.specs.Labels.{key_eq, keys_of, keys_of_labels, keys_of_witnesses, labels_of}
-use Rattle.lv_temporal.specs.Once.{once_behind}
+use Rattle.lv_labels.specs.declared.key.Key.{Key}
+use Rattle.lv_labels.specs.Labels.{key_eq, keys_of, keys_of_labels, keys_of_witnesses, labels_of}
+use Rattle.lv_labels.specs.Once.{once_behind}
 use Rattle.lv_grammar.specs.Grammar.{Each, nothing, first_and_rest}
 use Rattle.lv_syntax.specs.declared.draft.Draft.{Draft}
 use Rattle.lv_syntax.specs.declared.items.ItemKind.{ItemKind}

@@ -9,7 +9,7 @@ use Rattle.lv_system.specs.Vocabularies.{fixed_vocabulary, own_vocabulary}
 use Rattle.lv_system.specs.Limits.{in_item, counts_fit}
 use Rattle.lv_system.specs.Names.{same_text, is_name, are_name_bytes, begins_small, names_fit}
 use Rattle.lv_system.specs.Fits.{shape_fits, shapes_fit, formula_fits, formulas_fit, axioms_fit, inits_fit, action_fits, actions_fit, fair_fits, fairs_fit, label_fits, labels_fit, witness_fits, witnesses_fit, property_fits, invariant_fits, invariants_fit}
-use Rattle.lv_temporal.specs.Labels.{labels_of}
+use Rattle.lv_labels.specs.Labels.{labels_of}
 use Rattle.lv_grammar.specs.Grammar.{IsWord, IsList, IsLone, IsSort, IsDeclared, IsAction, IsFair, IsLabel, IsWitness, IsInvariant, Items, in_order, IsSystem}
 use Rattle.lv_grammar.specs.LabelLimits.{are_narrow, declared_keys, all_differ, lists_free, list_free, spoken_vocabulary, invariants_fit_in}
 use Rattle.lv_grammar.specs.Spelling.{SpellsSystem}

@@ -2,9 +2,9 @@
 use Rattle.std.proofs.Common.{◌≡◌, ℕ, suc, ◌≤◌, Bool, true, false, ◌||◌, cond, leb, ltb, List, [], ◌∷◌, ◌++◌, length, slice_get, Some, refl, sym, ap, subst, ◌∙◌, arith, append_assoc, length-append}
 use Rattle.std.proofs.lemmas.Bool.{leb-true, le-ltb}
 use Rattle.std.proofs.lemmas.List.{append-nil}
-use Rattle.lv_temporal.specs.declared.key.Key.{Key}
-use Rattle.lv_temporal.specs.Labels.{key_eq, number_of}
-use Rattle.lv_temporal.specs.Once.{is_among, once_behind}
+use Rattle.lv_labels.specs.declared.key.Key.{Key}
+use Rattle.lv_labels.specs.Labels.{key_eq, number_of}
+use Rattle.lv_labels.specs.Once.{is_among, once_behind}
 use Rattle.lv_grammar.specs.LabelLimits.{are_narrow}
 use Rattle.lv_syntax.specs.Labelling.{add_labels}
 use Rattle.lv_syntax.proofs.Steps.{done}

@@ -18,10 +18,10 @@ use Rattle.lv_system.specs.declared.parts.WitnessDecl.{WitnessDecl}
 use Rattle.lv_system.specs.declared.parts.Invariant.{Invariant}
 use Rattle.lv_system.specs.Fits.{is_target}
 use Rattle.lv_system.specs.Names.{same_text}
-use Rattle.lv_temporal.specs.declared.key.Key.{Key}
-use Rattle.lv_temporal.specs.Labels.{keys_of}
-use Rattle.lv_temporal.specs.Once.{is_among}
-use Rattle.lv_temporal.specs.Renaming.{free_variables}
+use Rattle.lv_labels.specs.declared.key.Key.{Key}
+use Rattle.lv_labels.specs.Labels.{keys_of}
+use Rattle.lv_labels.specs.Once.{is_among}
+use Rattle.lv_labels.specs.Renaming.{free_variables}
 use Rattle.lv_grammar.specs.Words.{Variable}
 use Rattle.lv_syntax.specs.declared.draft.Draft.{Draft}
 use Rattle.lv_syntax.specs.declared.draft.Named.{Named}

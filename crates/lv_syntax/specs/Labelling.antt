@@ -5,9 +5,9 @@ use Rattle.lv_tree.specs.declared.tree.Tree.TheOpen.{Tree-F, Word, Group}
 use Rattle.lv_tree.specs.declared.tree.Tree.TheFolds.{fold-Tree}
 use Rattle.lv_formula.specs.declared.temporal.Temporal.{Temporal}
 use Rattle.lv_system.specs.Names.{same_text}
-use Rattle.lv_temporal.specs.declared.key.Key.{Key}
-use Rattle.lv_temporal.specs.Labels.{key_eq, keys_of, number_of}
-use Rattle.lv_temporal.specs.Once.{once_behind}
+use Rattle.lv_labels.specs.declared.key.Key.{Key}
+use Rattle.lv_labels.specs.Labels.{key_eq, keys_of, number_of}
+use Rattle.lv_labels.specs.Once.{once_behind}
 use Rattle.lv_grammar.specs.Words.{Variable}
 use Rattle.lv_syntax.specs.declared.draft.Draft.{Draft}
 use Rattle.lv_syntax.specs.declared.draft.Role.{Role}

@@ -11,7 +11,7 @@ use Rattle.lv_system.specs.declared.parts.Symbol.{Symbol}
 use Rattle.lv_system.specs.declared.parts.Fair.{Fair}
 use Rattle.lv_system.specs.declared.parts.WitnessDecl.{WitnessDecl}
 use Rattle.lv_system.specs.Names.{same_text}
-use Rattle.lv_temporal.specs.declared.key.Key.{Key}
+use Rattle.lv_labels.specs.declared.key.Key.{Key}
 use Rattle.lv_grammar.specs.Words.{Variable, variable_number}
 use Rattle.lv_syntax.specs.declared.draft.Draft.{Draft}
 use Rattle.lv_syntax.specs.declared.draft.Named.{Named}

@@ -4,8 +4,8 @@ ghost use Rattle.lv_syntax.specs.Names.{sorts_seen};
 
 use crate::growing::Growing;
 use lv_formula::{Formula, SortId, Sym, Temporal, Text};
+use lv_labels::Key;
 use lv_system::{Action, Fair, Invariant, LabelDecl, Sort, Symbol, WitnessDecl};
-use lv_temporal::Key;
 use std::slice;
 
 /// What was read of a system so far.

@@ -1,6 +1,6 @@
 //! Items with temporal formulas: labels, witnesses, the property.
 ghost use Rattle.std.specs.Prelude.{◌≡◌, codes, eqb};
-ghost use Rattle.lv_temporal.specs.Once.{is_among};
+ghost use Rattle.lv_labels.specs.Once.{is_among};
 ghost use Rattle.lv_syntax.specs.Given.{Gives};
 ghost use Rattle.lv_syntax.specs.Seen.{headed_seen};
 ghost use Rattle.lv_syntax.specs.Parameters.{params_seen, param_seen, opening_seen, labelled_seen};
@@ -16,8 +16,8 @@ use crate::scope::{Parameter, Scope};
 use crate::trees::{HeadedList, finish, head, list, next, place, refuse_if};
 use crate::words::same_bytes;
 use lv_formula::Temporal;
+use lv_labels::{Key, free_variables};
 use lv_system::{LabelDecl, WitnessDecl};
-use lv_temporal::{Key, free_variables};
 use lv_tree::Tree;
 use std::alloc::Global;
 

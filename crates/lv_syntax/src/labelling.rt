@@ -1,7 +1,7 @@
 //! The labels of formulas, with the limits that are found once a formula is read.
 ghost use Rattle.std.specs.Prelude.{◌≡◌, ◌≤◌, ◌++◌, ◌∷◌, length, [], IfOk, IfErr, OnOk, codes, map, reverse};
-ghost use Rattle.lv_temporal.specs.Once.{is_among, once_behind, place_of};
-ghost use Rattle.lv_temporal.specs.Labels.{key_eq, keys_of, number_of};
+ghost use Rattle.lv_labels.specs.Once.{is_among, once_behind, place_of};
+ghost use Rattle.lv_labels.specs.Labels.{key_eq, keys_of, number_of};
 ghost use Rattle.lv_syntax.specs.Given.{Gives};
 ghost use Rattle.lv_syntax.specs.Parameters.{params_seen};
 ghost use Rattle.lv_syntax.specs.Labelling.{marked, is_operator_word, begins_operator, operator_places, operator_places_all, add_labels, path_in, own_number, free_name};
@@ -19,7 +19,7 @@ use crate::symbols::Setting;
 use crate::trees::{refusal, refuse_if};
 use crate::words::same_bytes;
 use lv_formula::{List, Memory, Scope as Context, Temporal};
-use lv_temporal::Key;
+use lv_labels::Key;
 use lv_tree::Tree;
 use std::alloc::Global;
 
@@ -154,7 +154,7 @@ pub(crate) fn keys_over(
     ensures memory { IfErr result (λ e. e ≡ ReadText.Memory) }
 {
     let sorts = sorts_of_parameters(alloc, params)?;
-    Ok(lv_temporal::keys_of(alloc, f, &Context::Outer(sorts.as_slice()))?)
+    Ok(lv_labels::keys_of(alloc, f, &Context::Outer(sorts.as_slice()))?)
 }
 
 fn operators(alloc: Global, tree: &Tree) -> Result<Vec<u32>, ReadText>

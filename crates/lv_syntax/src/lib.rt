@@ -25,6 +25,3 @@ mod words;
 
 pub use fault::{Kind, ReadText, SyntaxFault};
 pub use reader::read_system;
-
-#[cfg(test)]
-mod tests;

@@ -11,7 +11,7 @@ use Rattle.lv_formula.specs.Measures.{nodes_of}
 use Rattle.lv_formula.specs.Fits.{fits_in, all_fit_in, fits_up_to, sort_of, is_sort}
 use Rattle.lv_formula.specs.TemporalFits.{temporal_fits_in}
 use Rattle.lv_formula.specs.TemporalMeasures.{temporal_nodes_of}
-use Rattle.lv_struct.specs.Meaning.{Meaning}
+use Rattle.lv_formula.specs.Meaning.{Meaning}
 use Rattle.lv_system.specs.declared.parts.Parts.{Parts}
 use Rattle.lv_system.specs.declared.parts.Symbol.{Symbol}
 use Rattle.lv_system.specs.declared.parts.Shape.{Shape}

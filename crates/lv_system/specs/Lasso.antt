@@ -2,8 +2,8 @@
 use Rattle.std.specs.Prelude.{◌≡◌, ℕ, ◌<◌, ◌≤◌, ◌-◌, true, false, List, [], ◌∷◌, ◌++◌, length, get_or, reverse}
 use Rattle.lv_formula.specs.declared.symbols.SortId.{SortId}
 use Rattle.lv_formula.specs.declared.formula.Formula.TheVariants.{True}
-use Rattle.lv_struct.specs.Meaning.{Meaning, IsStructureOf, in_range}
-use Rattle.lv_eval.specs.Truth.{truth_in, all_true_in}
+use Rattle.lv_formula.specs.Meaning.{Meaning, IsStructureOf, in_range}
+use Rattle.lv_formula.specs.Truth.{truth_in, all_true_in}
 use Rattle.lv_system.specs.declared.parts.Parts.{Parts}
 use Rattle.lv_system.specs.declared.parts.Fair.{Fair}
 use Rattle.lv_system.specs.Step.{IsAllowed, IsPerformed, action_at}

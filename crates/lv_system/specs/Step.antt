@@ -4,8 +4,8 @@ use Rattle.lv_formula.specs.declared.symbols.SortId.{SortId}
 use Rattle.lv_formula.specs.declared.symbols.Sym.{Sym}
 use Rattle.lv_formula.specs.declared.symbols.Sym.TheVariants.{Own}
 use Rattle.lv_formula.specs.declared.formula.Formula.TheVariants.{True}
-use Rattle.lv_struct.specs.Meaning.{Meaning, in_range}
-use Rattle.lv_eval.specs.Truth.{truth_in, value_of}
+use Rattle.lv_formula.specs.Meaning.{Meaning, in_range}
+use Rattle.lv_formula.specs.Truth.{truth_in, value_of}
 use Rattle.lv_system.specs.declared.parts.Parts.{Parts}
 use Rattle.lv_system.specs.declared.parts.Symbol.{Symbol}
 use Rattle.lv_system.specs.declared.parts.Shape.TheVariants as S

@@ -5,8 +5,8 @@ use Rattle.lv_formula.specs.declared.symbols.Sym.TheVariants.{Witness}
 use Rattle.lv_formula.specs.declared.temporal.Temporal.{Temporal}
 use Rattle.lv_formula.specs.declared.temporal.Temporal.TheOpen.{Temporal-F, True, False, Atom, Same, Not, And, Or, Implies, Iff, All, Any, Always, Eventually}
 use Rattle.lv_formula.specs.declared.temporal.Temporal.TheFolds.{fold-Temporal}
-use Rattle.lv_struct.specs.Meaning.{Meaning}
-use Rattle.lv_eval.specs.Truth.{Env, value_of, values_of, all_below, any_below, iff}
+use Rattle.lv_formula.specs.Meaning.{Meaning}
+use Rattle.lv_formula.specs.Truth.{Env, value_of, values_of, all_below, any_below, iff}
 
 -- A lasso as functions of the position: positions 0 to stem - 1 are the stem, and the loop has one position and
 -- so many further ones. At each position stand its structure, and the step that leads on with its elements.

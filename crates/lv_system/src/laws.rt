@@ -2,7 +2,7 @@
 //!
 //! Each function here does nothing: it stands for the law that its contract states.
 ghost use Rattle.std.specs.Prelude.{ℕ, List};
-ghost use Rattle.lv_struct.specs.Meaning.{Meaning};
+ghost use Rattle.lv_formula.specs.Meaning.{Meaning};
 ghost use Rattle.lv_system.specs.declared.parts.Action.{Action};
 ghost use Rattle.lv_system.specs.declared.parts.Parts.{Parts};
 ghost use Rattle.lv_system.specs.Step.{IsPerformed, performed};

@@ -8,8 +8,6 @@ mod names;
 mod parts;
 mod system;
 mod temporal_limits;
-#[cfg(test)]
-mod tests;
 mod usable;
 
 pub use fitting::fits;

@@ -16,14 +16,14 @@ use Rattle.lv_formula.specs.TemporalFits.{temporal_fits_in, all_temporal_fit_in}
 use Rattle.lv_formula.proofs.Induction.{Each}
 use Rattle.lv_formula.proofs.TemporalFolds.{folds, folds_at}
 use Rattle.lv_formula.proofs.TemporalInduction.{by_cases}
-use Rattle.lv_temporal.specs.Once.{is_among, place_of}
-use Rattle.lv_temporal.specs.Renaming.{term_variables, terms_variables, joined, outside, occurrences_of, free_variables, under, renamed_term, renamed, rename_each, renumbered}
-use Rattle.lv_temporal.specs.declared.key.Key.{Key}
-use Rattle.lv_temporal.specs.Labels.{key_of, labelled, plain, plain_each, keys_of, keys_each}
-use Rattle.lv_temporal.proofs.Once.{each_first, each_second, each_both, placed}
-use Rattle.lv_temporal.proofs.Keys.{sort_at}
-use Rattle.lv_temporal.proofs.LabelsAt.{plains, keys}
-use Rattle.lv_temporal.proofs.Occurrences.{numbers, free_has, renumbered_reads}
+use Rattle.lv_labels.specs.Once.{is_among, place_of}
+use Rattle.lv_labels.specs.Renaming.{term_variables, terms_variables, joined, outside, occurrences_of, free_variables, under, renamed_term, renamed, rename_each, renumbered}
+use Rattle.lv_labels.specs.declared.key.Key.{Key}
+use Rattle.lv_labels.specs.Labels.{key_of, labelled, plain, plain_each, keys_of, keys_each}
+use Rattle.lv_labels.proofs.Once.{each_first, each_second, each_both, placed}
+use Rattle.lv_labels.proofs.Keys.{sort_at}
+use Rattle.lv_labels.proofs.LabelsAt.{plains, keys}
+use Rattle.lv_labels.proofs.Occurrences.{numbers, free_has, renumbered_reads}
 
 -- a sort that passes the test is there
 pub is_sort_some : (o : Option SortId) (s : SortId) → is_sort o s ≡ true → (t : SortId) × (o ≡ Some t)

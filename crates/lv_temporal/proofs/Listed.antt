@@ -4,19 +4,19 @@ use Rattle.std.proofs.lemmas.Bool.{cases_lt}
 use Rattle.lv_formula.specs.declared.symbols.SortId.{SortId}
 use Rattle.lv_formula.specs.declared.symbols.Sym.{Sym}
 use Rattle.lv_formula.specs.declared.symbols.Sym.TheVariants.{Own, Witness, Label, Frozen, Saved, Touched, Kept, Due, Copy, CopyLabel, Next, Param}
-use Rattle.lv_struct.specs.Meaning.{Meaning, is_element}
-use Rattle.lv_struct.proofs.MeaningLaws.{same_meaning}
-use Rattle.lv_eval.specs.Truth.{truth_in}
+use Rattle.lv_formula.specs.Meaning.{Meaning, is_element}
+use Rattle.lv_formula.proofs.MeaningLaws.{same_meaning}
+use Rattle.lv_formula.specs.Truth.{truth_in}
 use Rattle.lv_system.specs.declared.parts.Parts.{Parts}
 use Rattle.lv_system.specs.Lasso.{IsFair, IsLassoRun, Stop, lasso_of}
 use Rattle.lv_system.specs.Step.{IsAllowed, IsPerformed, action_at}
 use Rattle.lv_system.specs.TemporalTruth.{Lasso, holds, value_with}
-use Rattle.lv_temporal.specs.Positions.{no_position, run_of, seen_at, value_at}
-use Rattle.lv_temporal.specs.Problem.{Problem, justice_at, problem_of}
-use Rattle.lv_temporal.specs.Rounds.{IsRound}
-use Rattle.lv_temporal.specs.Runs.{IsLabelledRun, IsStart, IsState, LabelEquation, Run, is_denoted, is_finite, is_passed, touched}
+use Rattle.lv_labels.specs.Positions.{no_position, run_of, seen_at, value_at}
+use Rattle.lv_labels.specs.Problem.{Problem, justice_at, problem_of}
+use Rattle.lv_labels.specs.Rounds.{IsRound}
+use Rattle.lv_labels.specs.Runs.{IsLabelledRun, IsStart, IsState, LabelEquation, Run, is_denoted, is_finite, is_passed, touched}
 use Rattle.lv_temporal.specs.TrueLabels.{TrueLabels, chosen_witnesses, listed, position_of, position_on, unrolled}
-use Rattle.lv_temporal.proofs.Below.{any_below_same}
+use Rattle.lv_formula.proofs.Below.{any_below_same}
 use Rattle.lv_temporal.proofs.Ranges.{over_same}
 use Rattle.lv_temporal.proofs.ReadingTruth.{shown}
 use Rattle.lv_temporal.proofs.Scoped.{IsScoped}

@@ -10,9 +10,9 @@ use Rattle.lv_formula.specs.declared.formula.Formula.{Formula}
 use Rattle.lv_formula.specs.Vocabulary.{relation_in, constant_in}
 use Rattle.lv_formula.specs.Fits.{all_fit_in, fits_in, sort_of}
 use Rattle.lv_formula.proofs.Induction.{Each}
-use Rattle.lv_struct.specs.Meaning.{AgreeOn, IsStructureOf, Meaning, in_range, is_element}
-use Rattle.lv_eval.specs.Truth.{Env, all_true_in, truth_in, value_of}
-use Rattle.lv_eval.proofs.AgreeLaw.{truth_agrees}
+use Rattle.lv_formula.specs.Meaning.{AgreeOn, IsStructureOf, Meaning, in_range, is_element}
+use Rattle.lv_formula.specs.Truth.{Env, all_true_in, truth_in, value_of}
+use Rattle.lv_formula.proofs.AgreeLaw.{truth_agrees}
 use Rattle.lv_system.specs.declared.parts.Parts.{Parts}
 use Rattle.lv_system.specs.declared.parts.ActionUpdate.{ActionUpdate}
 use Rattle.lv_system.specs.declared.parts.ActionUpdate.TheVariants.{Relation, Constant}

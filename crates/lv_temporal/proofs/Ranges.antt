@@ -3,7 +3,7 @@ use Rattle.std.proofs.Common.{◌≡◌, ℕ, suc, Bool, true, ◌&&◌, List, [
 use Rattle.std.proofs.lemmas.Bool.{and_from, and_parts, false≢true}
 use Rattle.std.proofs.lemmas.List.{reverse-append}
 use Rattle.lv_formula.specs.declared.symbols.SortId.{SortId}
-use Rattle.lv_struct.specs.Tuples.{over}
+use Rattle.lv_formula.specs.Tuples.{over}
 
 module _ (set : SortId → ℕ → Bool) where
   -- a tuple over a set is as long as its sorts

@@ -24,19 +24,19 @@ use Rattle.lv_formula.proofs.TemporalInduction.{by_cases}
 use Rattle.lv_system.specs.declared.parts.Parts.{Parts}
 use Rattle.lv_system.specs.Lasso.{fair_at}
 use Rattle.lv_system.specs.Vocabularies.{own_vocabulary, witness_vocabulary}
-use Rattle.lv_temporal.specs.Labels.{key_of, keys_each, keys_of, label_atom, labelled, labels_of, number_of, plain, read_each, reading}
-use Rattle.lv_temporal.specs.Problem.{Condition, choice_at, choice_of, justice_at, label_at, label_condition, label_justice, no_condition, problem_of, shapes_from, state_vocabulary, tuple_variables}
-use Rattle.lv_temporal.specs.Renaming.{free_variables}
+use Rattle.lv_labels.specs.Labels.{key_of, keys_each, keys_of, label_atom, labelled, labels_of, number_of, plain, read_each, reading}
+use Rattle.lv_labels.specs.Problem.{Condition, choice_at, choice_of, justice_at, label_at, label_condition, label_justice, no_condition, problem_of, shapes_from, state_vocabulary, tuple_variables}
+use Rattle.lv_labels.specs.Renaming.{free_variables}
 use Rattle.lv_temporal.specs.TrueLabels.{key_at, witness_at}
 use Rattle.lv_temporal.proofs.Fits.{Extends, atom_more, binder_more, fits_below, fits_plain, same_more}
 use Rattle.lv_temporal.proofs.FitsMore.{fits_more}
-use Rattle.lv_temporal.proofs.Keys.{sort_at}
-use Rattle.lv_temporal.proofs.LabelsAt.{keys, read-Always, read-Eventually, read_with, reads}
-use Rattle.lv_temporal.proofs.Occurrences.{free_each}
-use Rattle.lv_temporal.proofs.Once.{each_first, each_second}
-use Rattle.lv_temporal.proofs.Plain.{whole_plain}
+use Rattle.lv_labels.proofs.Keys.{sort_at}
+use Rattle.lv_labels.proofs.LabelsAt.{keys, read-Always, read-Eventually, read_with, reads}
+use Rattle.lv_labels.proofs.Occurrences.{free_each}
+use Rattle.lv_labels.proofs.Once.{each_first, each_second}
+use Rattle.lv_labels.proofs.Plain.{whole_plain}
 use Rattle.lv_temporal.proofs.Scoped.{IsScoped}
-use Rattle.lv_temporal.proofs.Table.{AreIn, IsIn}
+use Rattle.lv_labels.proofs.Table.{AreIn, IsIn}
 use Rattle.lv_temporal.proofs.TableFits.{all_witnesses, key_inside, key_stands, property_inside, witness_inside}
 use Rattle.lv_temporal.proofs.Turns.{justice_conditions}
 use Rattle.lv_temporal.proofs.Unrolled.{choice_at_is, label_at_is}

@@ -17,25 +17,26 @@ use Rattle.lv_formula.proofs.Induction.{Each}
 use Rattle.lv_formula.proofs.Folds.{fold_at-Atom, fold_at-Not, folds_at as truths}
 use Rattle.lv_formula.proofs.TemporalFolds.{folds_at}
 use Rattle.lv_formula.proofs.TemporalInduction.{by_cases}
-use Rattle.lv_struct.specs.Meaning.{Meaning, in_range, is_element}
-use Rattle.lv_eval.specs.Truth.{Env, value_of, values_of, truth_in, truth_step, all_true_in, any_true_in, iff}
+use Rattle.lv_formula.specs.Meaning.{Meaning, in_range, is_element}
+use Rattle.lv_formula.specs.Truth.{Env, value_of, values_of, truth_in, truth_step, all_true_in, any_true_in, iff}
 use Rattle.lv_system.specs.declared.parts.Parts.{Parts}
 use Rattle.lv_system.specs.TemporalTruth.{Lasso, holds, at_each_later, value_with, with_witnesses, all_hold, any_holds}
-use Rattle.lv_temporal.specs.Once.{is_among}
-use Rattle.lv_temporal.specs.Renaming.{occurrences_of, free_variables, renamed, renumbered}
-use Rattle.lv_temporal.specs.Labels.{key_of, keys_of, keys_each, label_atom, labelled, labels_of, number_of, plain, read_each, reading}
-use Rattle.lv_temporal.specs.Positions.{holds_at}
+use Rattle.lv_labels.specs.Once.{is_among}
+use Rattle.lv_labels.specs.Renaming.{occurrences_of, free_variables, renamed, renumbered}
+use Rattle.lv_labels.specs.Labels.{key_of, keys_of, keys_each, label_atom, labelled, labels_of, number_of, plain, read_each, reading}
+use Rattle.lv_labels.specs.Positions.{holds_at}
 use Rattle.lv_temporal.specs.TrueLabels.{key_at, position_of, true_table}
-use Rattle.lv_temporal.proofs.Below.{all_below_same, any_below_same, later_same}
+use Rattle.lv_formula.proofs.Below.{all_below_same, any_below_same}
+use Rattle.lv_labels.proofs.Later.{later_same}
 use Rattle.lv_temporal.proofs.Fits.{fits_below, fits_plain}
-use Rattle.lv_temporal.proofs.HoldsAt.{held, holds-Always}
-use Rattle.lv_temporal.proofs.Keys.{sort_at}
-use Rattle.lv_temporal.proofs.LabelsAt.{keys, reads, read_with, read-Always, read-Eventually}
-use Rattle.lv_temporal.proofs.Occurrences.{free_each, free_has, renumbered_reads}
-use Rattle.lv_temporal.proofs.Once.{each_first, each_second, each_weaker}
-use Rattle.lv_temporal.proofs.Plain.{holds_plain, whole_plain}
+use Rattle.lv_labels.proofs.HoldsAt.{held, holds-Always}
+use Rattle.lv_labels.proofs.Keys.{sort_at}
+use Rattle.lv_labels.proofs.LabelsAt.{keys, reads, read_with, read-Always, read-Eventually}
+use Rattle.lv_labels.proofs.Occurrences.{free_each, free_has, renumbered_reads}
+use Rattle.lv_labels.proofs.Once.{each_first, each_second, each_weaker}
+use Rattle.lv_labels.proofs.Plain.{holds_plain, whole_plain}
 use Rattle.lv_temporal.proofs.Renaming.{Reads, holds_renamed}
-use Rattle.lv_temporal.proofs.Table.{AreIn, IsIn}
+use Rattle.lv_labels.proofs.Table.{AreIn, IsIn}
 
 -- the structure at a position of the lasso, with these witnesses and the true tables
 abbrev pub shown : Parts → Lasso → (ℕ → ℕ) → ℕ → Meaning

@@ -6,13 +6,14 @@ use Rattle.lv_formula.specs.declared.temporal.Temporal.{Temporal}
 use Rattle.lv_formula.proofs.Induction.{Each}
 use Rattle.lv_formula.proofs.TemporalFolds.{folds, folds_at}
 use Rattle.lv_formula.proofs.TemporalInduction.{Cases, by_cases}
-use Rattle.lv_struct.specs.Meaning.{Meaning}
-use Rattle.lv_eval.specs.Truth.{Env, value_of, values_of, iff}
+use Rattle.lv_formula.specs.Meaning.{Meaning}
+use Rattle.lv_formula.specs.Truth.{Env, value_of, values_of, iff}
 use Rattle.lv_system.specs.TemporalTruth.{Lasso, holds, with_witnesses, all_hold, any_holds}
-use Rattle.lv_temporal.specs.Renaming.{term_variables, terms_variables, joined, outside, occurrences_of, under, renamed_term, renamed, rename_each}
-use Rattle.lv_temporal.proofs.Once.{each_first, each_second}
-use Rattle.lv_temporal.proofs.HoldsAt.{held}
-use Rattle.lv_temporal.proofs.Below.{all_below_same, any_below_same, later_same}
+use Rattle.lv_labels.specs.Renaming.{term_variables, terms_variables, joined, outside, occurrences_of, under, renamed_term, renamed, rename_each}
+use Rattle.lv_labels.proofs.Once.{each_first, each_second}
+use Rattle.lv_labels.proofs.HoldsAt.{held}
+use Rattle.lv_formula.proofs.Below.{all_below_same, any_below_same}
+use Rattle.lv_labels.proofs.Later.{later_same}
 
 -- the first environment has for the new name of each of these variables what the second has for the old
 abbrev pub Reads : (ℕ → ℕ) → Env → Env → List ℕ → Type 0

@@ -8,21 +8,21 @@ use Rattle.lv_formula.specs.declared.temporal.Temporal.TheVariants as T
 use Rattle.lv_formula.proofs.Folds.{folds as formulas, folds_at as formulas_at}
 use Rattle.lv_formula.proofs.TemporalFolds.{folds, folds_at}
 use Rattle.lv_formula.specs.Symbols.{sym_eq}
-use Rattle.lv_struct.specs.Meaning.{IsStructureOf}
+use Rattle.lv_formula.specs.Meaning.{IsStructureOf}
 use Rattle.lv_system.specs.Fits.{fits_parts}
 use Rattle.lv_system.specs.Names.{names_of, names_item, names_part, names_connective, names_operator, names_run}
 use Rattle.lv_system.specs.Lasso.{IsFair, IsLassoRun, lasso_of}
 use Rattle.lv_system.specs.Step.{IsAllowed, IsPerformed, action_at}
 use Rattle.lv_system.specs.TemporalTruth.{Lasso, end_of, holds, next_of}
 use Rattle.lv_system.specs.Vocabularies.{own_vocabulary}
-use Rattle.lv_temporal.specs.Once.{each_once}
-use Rattle.lv_temporal.specs.Renaming.{free_variables}
-use Rattle.lv_temporal.specs.declared.key.Key.{Key}
-use Rattle.lv_temporal.specs.Labels.{key_eq, key_of, keys_of, label_atom, labels_of, number_of, reading}
+use Rattle.lv_labels.specs.Once.{each_once}
+use Rattle.lv_labels.specs.Renaming.{free_variables}
+use Rattle.lv_labels.specs.declared.key.Key.{Key}
+use Rattle.lv_labels.specs.Labels.{key_eq, key_of, keys_of, label_atom, labels_of, number_of, reading}
 use Rattle.lv_temporal.specs.Samples.{link, link_atom, link_label, links, node, without_links}
-use Rattle.lv_temporal.proofs.HoldsAt.{held}
-use Rattle.lv_temporal.proofs.LabelsAt.{keys, read-All, read-Always, read-Or, whole, wholes}
-use Rattle.lv_temporal.proofs.Sameness.{key_decides}
+use Rattle.lv_labels.proofs.HoldsAt.{held}
+use Rattle.lv_labels.proofs.LabelsAt.{keys, read-All, read-Always, read-Or, whole, wholes}
+use Rattle.lv_labels.proofs.Sameness.{key_decides}
 
 -- the system fits
 pub links_fit : fits_parts links ≡ true

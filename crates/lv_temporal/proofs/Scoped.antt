@@ -15,8 +15,8 @@ use Rattle.lv_system.proofs.FitsFacts.{FitConstant, FitRelation, Fitting, fit_co
 use Rattle.lv_system.specs.Step.{action_at, no_symbol, symbol_at}
 use Rattle.lv_system.specs.Vocabularies.{constant_sort, fixed_vocabulary, own_vocabulary, relation_sorts, witness_vocabulary}
 use Rattle.lv_temporal.specs.TrueLabels.{witness_at}
-use Rattle.lv_temporal.proofs.Once.{each_from}
-use Rattle.lv_temporal.proofs.Sameness.{sort_true}
+use Rattle.lv_labels.proofs.Once.{each_from}
+use Rattle.lv_labels.proofs.Sameness.{sort_true}
 
 -- a sort that passes the test is there
 pub is_sort_true : (o : Option SortId) (s : SortId) → is_sort o s ≡ true → o ≡ Some s

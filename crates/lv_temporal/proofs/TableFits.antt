@@ -5,13 +5,13 @@ use Rattle.lv_formula.specs.declared.vocabulary.Vocabulary.{Vocabulary}
 use Rattle.lv_formula.proofs.Induction.{Each}
 use Rattle.lv_system.specs.declared.parts.Parts.{Parts}
 use Rattle.lv_system.specs.Vocabularies.{own_vocabulary, witness_vocabulary}
-use Rattle.lv_temporal.specs.Labels.{keys_of, labels_of}
+use Rattle.lv_labels.specs.Labels.{keys_of, labels_of}
 use Rattle.lv_temporal.specs.TrueLabels.{key_at, no_key, no_witness, witness_at}
 use Rattle.lv_temporal.proofs.Fits.{KeyFits, keys_fit, temporal_fits_more}
-use Rattle.lv_temporal.proofs.Keys.{EachInside}
-use Rattle.lv_temporal.proofs.Once.{each_at, each_from, each_weaker}
+use Rattle.lv_labels.proofs.Keys.{EachInside}
+use Rattle.lv_labels.proofs.Once.{each_at, each_from, each_weaker}
 use Rattle.lv_temporal.proofs.Scoped.{IsScoped}
-use Rattle.lv_temporal.proofs.Table.{AreIn, IsIn, each_in, each_label, inside_in}
+use Rattle.lv_labels.proofs.Table.{AreIn, IsIn, each_in, each_label, inside_in}
 use Rattle.lv_temporal.proofs.Vocabularies.{own_extends, witness_extends}
 
 -- the own symbols and all witnesses

@@ -4,22 +4,22 @@ use Rattle.std.proofs.lemmas.Bool.{and_parts, or_cases, false≢true}
 use Rattle.std.proofs.lemmas.List.{length-map}
 use Rattle.lv_formula.specs.declared.symbols.SortId.{SortId}
 use Rattle.lv_formula.specs.declared.symbols.Sym.TheVariants.{Own}
-use Rattle.lv_struct.specs.Meaning.{Meaning, in_range, is_element}
-use Rattle.lv_eval.specs.Truth.{any_below}
-use Rattle.lv_eval.proofs.Readings.{any_below-some}
+use Rattle.lv_formula.specs.Meaning.{Meaning, in_range, is_element}
+use Rattle.lv_formula.specs.Truth.{any_below}
+use Rattle.lv_formula.proofs.Readings.{any_below-some}
 use Rattle.lv_system.specs.declared.parts.Parts.{Parts}
 use Rattle.lv_system.specs.Lasso.{IsLassoRun}
 use Rattle.lv_system.specs.Step.{action_at, symbol_at}
 use Rattle.lv_system.specs.TemporalTruth.{Lasso}
 use Rattle.lv_system.specs.Vocabularies.{constant_sort}
-use Rattle.lv_temporal.specs.Labels.{labels_of}
-use Rattle.lv_temporal.specs.Problem.{choice_at, choice_of, problem_of}
-use Rattle.lv_temporal.specs.Runs.{is_constant, is_constant_value, is_denoted, is_finite, is_passed, is_witness_value, touched}
+use Rattle.lv_labels.specs.Labels.{labels_of}
+use Rattle.lv_labels.specs.Problem.{choice_at, choice_of, problem_of}
+use Rattle.lv_labels.specs.Runs.{is_constant, is_constant_value, is_denoted, is_finite, is_passed, is_witness_value, touched}
 use Rattle.lv_temporal.specs.TrueLabels.{position_on, witness_at}
 use Rattle.lv_temporal.proofs.FitsMore.{own_constant_found}
 use Rattle.lv_temporal.proofs.ReadingTruth.{shown}
 use Rattle.lv_temporal.proofs.Scoped.{is_sort_true}
-use Rattle.lv_temporal.proofs.Sameness.{sort_true}
+use Rattle.lv_labels.proofs.Sameness.{sort_true}
 use Rattle.lv_temporal.proofs.Unrolled.{all_chosen, choice_at_is, chosen_below, position_bound, size_at, structure_at, unrolled_run}
 
 -- what a step takes is in each set that its elements are in

@@ -7,21 +7,21 @@ use Rattle.lv_formula.specs.declared.symbols.Sym.TheVariants.{Label}
 use Rattle.lv_formula.specs.declared.formula.Formula.{Formula}
 use Rattle.lv_formula.proofs.Folds.{folds_at as truths}
 use Rattle.lv_formula.proofs.Induction.{Each}
-use Rattle.lv_struct.specs.Meaning.{Meaning, in_range, is_element}
-use Rattle.lv_struct.specs.Tuples.{over}
-use Rattle.lv_eval.specs.Truth.{truth_in, values_of}
+use Rattle.lv_formula.specs.Meaning.{Meaning, in_range, is_element}
+use Rattle.lv_formula.specs.Tuples.{over}
+use Rattle.lv_formula.specs.Truth.{truth_in, values_of}
 use Rattle.lv_system.specs.declared.parts.Parts.{Parts}
 use Rattle.lv_system.specs.declared.parts.Fair.{Fair}
 use Rattle.lv_system.specs.Lasso.{IsFair, IsLassoRun, fair_at, no_fair}
 use Rattle.lv_system.specs.TemporalTruth.{Lasso, at_each_later, end_of, holds, next_of}
-use Rattle.lv_temporal.specs.declared.key.Key.{Key}
-use Rattle.lv_temporal.specs.Labels.{labels_of, reading}
-use Rattle.lv_temporal.specs.Problem.{Condition, fair_condition, justice_at, label_justice, label_justices, no_condition, problem_of, tuple_variables}
-use Rattle.lv_temporal.specs.Rounds.{IsRound}
-use Rattle.lv_temporal.specs.Runs.{Run, touched}
+use Rattle.lv_labels.specs.declared.key.Key.{Key}
+use Rattle.lv_labels.specs.Labels.{labels_of, reading}
+use Rattle.lv_labels.specs.Problem.{Condition, fair_condition, justice_at, label_justice, label_justices, no_condition, problem_of, tuple_variables}
+use Rattle.lv_labels.specs.Rounds.{IsRound}
+use Rattle.lv_labels.specs.Runs.{Run, touched}
 use Rattle.lv_temporal.specs.TrueLabels.{key_at, no_key, position_on}
-use Rattle.lv_temporal.proofs.Below.{all_below_not, next_cases}
-use Rattle.lv_temporal.proofs.Once.{each_at, each_both, each_from}
+use Rattle.lv_labels.proofs.Later.{all_below_not, next_cases}
+use Rattle.lv_labels.proofs.Once.{each_at, each_both, each_from}
 use Rattle.lv_temporal.proofs.OwnTruth.{own_truth}
 use Rattle.lv_temporal.proofs.Ranges.{over_length, over_more, over_reverse}
 use Rattle.lv_temporal.proofs.Scoped.{IsScoped}

@@ -9,20 +9,21 @@ use Rattle.lv_formula.specs.declared.formula.Formula.TheVariants.{Any}
 use Rattle.lv_formula.specs.declared.temporal.Temporal.TheVariants as T
 use Rattle.lv_formula.specs.Vocabulary.{constant_in}
 use Rattle.lv_formula.proofs.Folds.{fold_at-Any, fold_at-Not}
-use Rattle.lv_struct.specs.Meaning.{IsStructureOf, in_range, is_element}
-use Rattle.lv_eval.specs.Truth.{Env, truth_in, truth_step}
+use Rattle.lv_formula.specs.Meaning.{IsStructureOf, in_range, is_element}
+use Rattle.lv_formula.specs.Truth.{Env, truth_in, truth_step}
 use Rattle.lv_system.specs.declared.parts.Parts.{Parts}
 use Rattle.lv_system.specs.Lasso.{IsLassoRun}
 use Rattle.lv_system.specs.Step.{IsAllowed, IsPerformed, action_at}
 use Rattle.lv_system.specs.TemporalTruth.{Lasso, end_of, holds, at_each_later}
 use Rattle.lv_system.specs.Vocabularies.{own_vocabulary, witness_vocabulary}
-use Rattle.lv_temporal.specs.Labels.{labels_of, reading}
-use Rattle.lv_temporal.specs.Problem.{choice_at, choice_of, label_at, label_condition, no_choice, no_condition, problem_of}
-use Rattle.lv_temporal.specs.Runs.{IsLabelledRun, IsStart, IsState, LabelEquation, Run}
+use Rattle.lv_labels.specs.Labels.{labels_of, reading}
+use Rattle.lv_labels.specs.Problem.{choice_at, choice_of, label_at, label_condition, no_choice, no_condition, problem_of}
+use Rattle.lv_labels.specs.Runs.{IsLabelledRun, IsStart, IsState, LabelEquation, Run}
 use Rattle.lv_temporal.specs.TrueLabels.{chosen, key_at, no_key, no_witness, position_on, true_table, witness_at}
-use Rattle.lv_temporal.proofs.Below.{any_below_same, later_step, next_bound}
+use Rattle.lv_formula.proofs.Below.{any_below_same}
+use Rattle.lv_labels.proofs.Later.{later_step, next_bound}
 use Rattle.lv_temporal.proofs.FitsMore.{all_fit_more, fixed_extends}
-use Rattle.lv_temporal.proofs.HoldsAt.{holds-Always}
+use Rattle.lv_labels.proofs.HoldsAt.{holds-Always}
 use Rattle.lv_temporal.proofs.OwnTruth.{own_agrees, own_element, own_holds, own_truth, own_truths}
 use Rattle.lv_temporal.proofs.Ranges.{over_reverse, over_same}
 use Rattle.lv_temporal.proofs.ReadingTruth.{reading_true, shown}

@@ -14,15 +14,16 @@ use Rattle.lv_formula.specs.TemporalFits.{temporal_fits_in, all_temporal_fit_in}
 use Rattle.lv_formula.proofs.Induction.{Each}
 use Rattle.lv_formula.proofs.TemporalFolds.{folds_at}
 use Rattle.lv_formula.proofs.TemporalInduction.{by_cases}
-use Rattle.lv_struct.specs.Meaning.{Meaning}
-use Rattle.lv_eval.specs.Truth.{Env, value_of, values_of, any_below, iff}
+use Rattle.lv_formula.specs.Meaning.{Meaning}
+use Rattle.lv_formula.specs.Truth.{Env, value_of, values_of, any_below, iff}
 use Rattle.lv_system.specs.declared.parts.Parts.{Parts}
 use Rattle.lv_system.specs.TemporalTruth.{Lasso, holds, value_with, with_witnesses, all_hold, any_holds}
 use Rattle.lv_system.specs.Vocabularies.{witness_vocabulary}
 use Rattle.lv_temporal.specs.TrueLabels.{chosen, pick, witness_at}
-use Rattle.lv_temporal.proofs.Below.{all_below_same, any_below_same, later_same}
+use Rattle.lv_formula.proofs.Below.{all_below_same, any_below_same}
+use Rattle.lv_labels.proofs.Later.{later_same}
 use Rattle.lv_temporal.proofs.Fits.{agree_some, is_sort_some}
-use Rattle.lv_temporal.proofs.HoldsAt.{held}
+use Rattle.lv_labels.proofs.HoldsAt.{held}
 use Rattle.lv_temporal.proofs.Vocabularies.{witness_early}
 
 -- ---- the witnesses that a formula doesn't have don't matter

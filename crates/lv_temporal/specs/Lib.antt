@@ -1,12 +1,7 @@
-pub mod Labels
-pub mod Once
-pub mod Positions
-pub mod Problem
-pub mod Renaming
-pub mod Renamings
-pub mod Rounds
-pub mod Runs
+pub mod Projections
+pub mod Rows
 pub mod Samples
-pub mod Sameness
-pub mod Table
+pub mod Small
 pub mod TrueLabels
+pub mod Visits
+pub mod Walk

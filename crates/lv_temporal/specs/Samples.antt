@@ -10,7 +10,7 @@ use Rattle.lv_formula.specs.declared.temporal.Temporal.TheVariants as T
 use Rattle.lv_system.specs.declared.parts.Parts.{Parts}
 use Rattle.lv_system.specs.declared.parts.Shape.TheVariants.{Relation}
 use Rattle.lv_system.specs.Lasso.{Stop}
-use Rattle.lv_temporal.specs.declared.key.Key.{Key}
+use Rattle.lv_labels.specs.declared.key.Key.{Key}
 
 abbrev pub node : SortId
 node = record { 0 = 0 }

@@ -1,18 +1,18 @@
 -- A lasso run that violates the property, unrolled, with the true tables of the labels and chosen witnesses.
 use Rattle.std.specs.Prelude.{◌≡◌, ℕ, zero, suc, ◌<◌, ◌≤◌, ◌+◌, Bool, false, ◌&&◌, eqb, ltb, cond, List, [], ◌∷◌, length, get_or, reverse}
 use Rattle.lv_formula.specs.declared.temporal.Temporal.TheVariants.{True, Always}
-use Rattle.lv_struct.specs.Meaning.{in_range}
+use Rattle.lv_formula.specs.Meaning.{in_range}
 use Rattle.lv_system.specs.declared.parts.Parts.{Parts}
 use Rattle.lv_system.specs.declared.parts.WitnessDecl.{WitnessDecl}
 use Rattle.lv_system.specs.Lasso.{IsFair, IsLassoRun, Stop, lasso_of}
 use Rattle.lv_system.specs.TemporalTruth.{Lasso, holds, next_of}
-use Rattle.lv_temporal.specs.declared.key.Key.{Key}
-use Rattle.lv_temporal.specs.Labels.{labels_of}
-pub use Rattle.lv_temporal.specs.Labels.{no_key}
-use Rattle.lv_temporal.specs.Positions.{Position, run_of}
-use Rattle.lv_temporal.specs.Problem.{problem_of}
-use Rattle.lv_temporal.specs.Rounds.{IsRound}
-use Rattle.lv_temporal.specs.Runs.{IsLabelledRun}
+use Rattle.lv_labels.specs.declared.key.Key.{Key}
+use Rattle.lv_labels.specs.Labels.{labels_of}
+pub use Rattle.lv_labels.specs.Labels.{no_key}
+use Rattle.lv_labels.specs.Positions.{Position, run_of}
+use Rattle.lv_labels.specs.Problem.{problem_of}
+use Rattle.lv_labels.specs.Rounds.{IsRound}
+use Rattle.lv_labels.specs.Runs.{IsLabelledRun}
 
 abbrev pub key_at : Parts → ℕ → Key
 key_at p l = get_or (labels_of p) l no_key

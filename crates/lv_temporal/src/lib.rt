@@ -1,25 +1,12 @@
-//! Labels of a system's temporal formulas, readings, labelled runs, rounds and their bound.
+//! Laws of labelled runs, over the definitions of lv_labels: true labels, the walk of the monitor, and what valid
+//! obligations say of a system's runs.
 //!
-//! The labels are the temporal subformulas of which the tableau of Padon, Hoenicke, Losa, Podelski, Sagiv and Shoham
-//! (Reducing liveness to safety in first-order logic, POPL 2018) keeps the truth in each state. The code lists them and
-//! gives the readings; runs and rounds are defined alone, and what follows from the definitions stands in `laws`.
+//! The crate holds no code. What lv_labels has is given out under the same names.
 #![tactic(auto)]
 
-mod build;
-mod key;
-mod known;
-mod labelling;
 pub mod laws;
-mod listing;
-mod readings;
-mod renumber;
-#[cfg(test)]
-mod tests;
-mod variables;
 
-pub use key::Key;
-pub use known::KnownKeys;
-pub use labelling::{Label, LabelTable, labels_of};
-pub use listing::{key_of, keys_of, plain_of};
-pub use readings::reading;
-pub use variables::free_variables;
+pub use lv_labels::{
+    Key, KnownKeys, Label, LabelTable, Move, Which, free_variables, key_of, keys_of, labels_of,
+    plain_of, reading,
+};

@@ -25,6 +25,3 @@ pub use list::{List, Text};
 pub use reader::{MAX_BYTES, read_tree};
 pub use tree::Tree;
 pub use writer::write_tree;
-
-#[cfg(test)]
-mod tests;

@@ -1,7 +1,7 @@
 use Rattle.std.proofs.Common.{◌≡◌, ◌<◌, true, false, ◌∷◌, sym, ap, ◌∙◌, arith}
 use Rattle.lv_struct.specs.Tables.{meaning, size_in}
-use Rattle.lv_eval.specs.Truth.{truth_in}
-use Rattle.lv_eval.proofs.Below.{all_below-fails, any_below-holds}
+use Rattle.lv_formula.specs.Truth.{truth_in}
+use Rattle.lv_formula.proofs.Below.{all_below-fails, any_below-holds}
 use Rattle.lv_eval.proofs.evaluate.+truth.Goals as goal
 
 pub holds_for_all-returns-then-not-truth_with-clause-value : goal.holds_for_all-returns-then-not-truth_with-clause-value

@@ -1,7 +1,7 @@
 use Rattle.std.proofs.Common.{◌≡◌, ◌+◌, ◌≤◌, ◌∷◌, true, false, drop}
 use Rattle.lv_formula.specs.Measures.{depth_of, depth_of_all}
 use Rattle.lv_struct.specs.Tables.{meaning}
-use Rattle.lv_eval.specs.Truth.{truth_in, all_true_in, any_true_in, all_below, any_below}
+use Rattle.lv_formula.specs.Truth.{truth_in, all_true_in, any_true_in, all_below, any_below}
 use Rattle.lv_eval.proofs.evaluate.+truth.Given as goal
 
 abbrev pub invariant-all_hold-loop-f : goal.invariant-all_hold-loop-f

@@ -1,7 +1,7 @@
 use Rattle.std.proofs.Common.{◌≡◌, drop}
 use Rattle.lv_struct.specs.Tables.{meaning, tuples_in}
-use Rattle.lv_struct.specs.Tuples.{has_tuple}
-use Rattle.lv_eval.specs.Truth.{values_of}
+use Rattle.lv_formula.specs.Tuples.{has_tuple}
+use Rattle.lv_formula.specs.Truth.{values_of}
 use Rattle.lv_eval.proofs.evaluate.atom_holds.Given as goal
 
 abbrev pub invariant-loop-tuple : goal.invariant-loop-tuple

@@ -1,7 +1,7 @@
 use Rattle.std.proofs.Common.{◌≡◌, drop}
 use Rattle.lv_struct.specs.Tables.{meaning}
-use Rattle.lv_struct.specs.Tuples.{tuple_eq}
-use Rattle.lv_eval.specs.Truth.{values_of}
+use Rattle.lv_formula.specs.Tuples.{tuple_eq}
+use Rattle.lv_formula.specs.Truth.{values_of}
 use Rattle.lv_eval.proofs.evaluate.is_tuple.Given as goal
 
 abbrev pub invariant-loop-i : goal.invariant-loop-i

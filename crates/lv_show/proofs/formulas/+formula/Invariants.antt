@@ -1,5 +1,5 @@
 use Rattle.std.proofs.Common.{◌≡◌, ◌++◌, drop}
-use Rattle.lv_show.specs.Formulas.{shown_formulas}
+use Rattle.lv_grammar.specs.ShownFormulas.{shown_formulas}
 use Rattle.lv_show.proofs.formulas.+formula.Given as goal
 
 abbrev pub invariant-formulas-loop-f : goal.invariant-formulas-loop-f

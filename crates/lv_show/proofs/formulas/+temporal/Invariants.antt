@@ -1,6 +1,6 @@
 use Rattle.std.proofs.Common.{◌≡◌, ◌+◌, ◌*◌, ◌++◌, drop}
 use Rattle.lv_formula.specs.TemporalMeasures.{temporal_nodes_of, temporal_nodes_of_all}
-use Rattle.lv_show.specs.Formulas.{shown_temporals}
+use Rattle.lv_grammar.specs.ShownFormulas.{shown_temporals}
 use Rattle.lv_show.proofs.formulas.+temporal.Given as goal
 
 abbrev pub decreases-temporal : goal.decreases-temporal

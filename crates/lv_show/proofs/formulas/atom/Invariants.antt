@@ -1,5 +1,5 @@
 use Rattle.std.proofs.Common.{◌≡◌, ◌++◌, drop, map}
-use Rattle.lv_show.specs.Formulas.{shown_term}
+use Rattle.lv_grammar.specs.ShownFormulas.{shown_term}
 use Rattle.lv_show.proofs.formulas.atom.Given as goal
 
 abbrev pub invariant-loop-x : goal.invariant-loop-x

@@ -1,6 +1,6 @@
 use Rattle.std.proofs.Common.{◌≡◌, ◌++◌, map, ap, ◌∙◌, rules}
-use Rattle.lv_show.specs.Systems.{shown_invariant}
-use Rattle.lv_show.proofs.LayoutLaw.{all_items}
+use Rattle.lv_grammar.specs.ShownSystems.{shown_invariant}
+use Rattle.lv_grammar.proofs.LayoutLaw.{all_items}
 use Rattle.lv_show.proofs.items.items.Goals as goal
 
 pub returns : goal.returns

@@ -1,5 +1,5 @@
 use Rattle.std.proofs.Common.{◌≡◌, ◌++◌, drop}
-use Rattle.lv_show.specs.Systems.{shown_pairs}
+use Rattle.lv_grammar.specs.ShownSystems.{shown_pairs}
 use Rattle.lv_show.proofs.items.parameters.Given as goal
 
 abbrev pub invariant-loop-sort : goal.invariant-loop-sort

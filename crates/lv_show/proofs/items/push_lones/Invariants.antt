@@ -1,5 +1,5 @@
 use Rattle.std.proofs.Common.{◌≡◌, ◌++◌, drop, map}
-use Rattle.lv_show.specs.Systems.{shown_lone}
+use Rattle.lv_grammar.specs.ShownSystems.{shown_lone}
 use Rattle.lv_show.proofs.items.push_lones.Given as goal
 
 abbrev pub invariant-loop-f : goal.invariant-loop-f

@@ -1,6 +1,6 @@
 use Rattle.std.proofs.Common.{◌≡◌, ◌++◌, map, ap, ◌∙◌}
-use Rattle.lv_show.specs.Systems.{shown_action, shown_fair, shown_label, shown_witness}
-use Rattle.lv_show.proofs.LayoutLaw.{behind_four}
+use Rattle.lv_grammar.specs.ShownSystems.{shown_action, shown_fair, shown_label, shown_witness}
+use Rattle.lv_grammar.proofs.LayoutLaw.{behind_four}
 use Rattle.lv_show.proofs.items.push_moving.Goals as goal
 
 pub returns : goal.returns

@@ -1,5 +1,5 @@
 use Rattle.std.proofs.Common.{◌≡◌, ◌++◌, drop, map}
-use Rattle.lv_show.specs.Systems.{shown_update}
+use Rattle.lv_grammar.specs.ShownSystems.{shown_update}
 use Rattle.lv_show.proofs.items.push_updates.Given as goal
 
 abbrev pub invariant-loop-each : goal.invariant-loop-each

@@ -1,5 +1,5 @@
 use Rattle.std.proofs.Common.{◌≡◌, ◌++◌, drop, map}
-use Rattle.lv_show.specs.Systems.{shown_sort_name}
+use Rattle.lv_grammar.specs.ShownSystems.{shown_sort_name}
 use Rattle.lv_show.proofs.items.sort_names.Given as goal
 
 abbrev pub invariant-loop-sort : goal.invariant-loop-sort

@@ -1,5 +1,5 @@
 use Rattle.std.proofs.Common.{rules, arith}
-use Rattle.lv_show.proofs.LayoutLaw.{names_more}
+use Rattle.lv_grammar.proofs.LayoutLaw.{names_more}
 use Rattle.lv_show.proofs.items.variables.Goals as goal
 
 pub loop-sort-preserved : goal.loop-sort-preserved

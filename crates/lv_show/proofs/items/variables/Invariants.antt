@@ -1,5 +1,5 @@
 use Rattle.std.proofs.Common.{◌≡◌, ◌++◌, drop}
-use Rattle.lv_show.specs.Systems.{shown_names}
+use Rattle.lv_grammar.specs.ShownSystems.{shown_names}
 use Rattle.lv_show.proofs.items.variables.Given as goal
 
 abbrev pub invariant-loop-sort : goal.invariant-loop-sort

@@ -1,7 +1,7 @@
 use Rattle.std.proofs.Common.{◌≡◌, ◌++◌, drop}
 use Rattle.std.proofs.Common.{true}
 use Rattle.lv_tree.specs.Spelling.{all_fit_in}
-use Rattle.lv_show.specs.Layout.{in_lines}
+use Rattle.lv_grammar.specs.Layout.{in_lines}
 use Rattle.lv_show.proofs.texts.push_lines.Given as goal
 
 abbrev pub invariant-loop-tree : goal.invariant-loop-tree

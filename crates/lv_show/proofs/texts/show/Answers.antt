@@ -1,7 +1,7 @@
 use Rattle.std.proofs.Common.{◌≡◌, ℕ, List, ap, ◌∙◌, rules}
-use Rattle.lv_show.specs.Systems.{shown_items}
-use Rattle.lv_show.specs.Layout.{shown_text}
-use Rattle.lv_show.proofs.TextLaw.{lines_fit, text_again, text_made}
+use Rattle.lv_grammar.specs.ShownSystems.{shown_items}
+use Rattle.lv_grammar.specs.Layout.{shown_text}
+use Rattle.lv_grammar.proofs.TextLaw.{lines_fit, text_again, text_made}
 use Rattle.lv_show.proofs.texts.show.Goals as goal
 
 pub push_lines-requires : goal.push_lines-requires

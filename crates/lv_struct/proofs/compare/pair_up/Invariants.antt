@@ -1,5 +1,5 @@
 use Rattle.std.proofs.Common.{◌≡◌, drop}
-use Rattle.lv_struct.specs.Tuples.{pairwise}
+use Rattle.lv_formula.specs.Tuples.{pairwise}
 use Rattle.lv_struct.proofs.compare.pair_up.Given as goal
 
 abbrev pub invariant-loop-i : goal.invariant-loop-i

@@ -1,5 +1,5 @@
 use Rattle.std.proofs.Common.{◌≡◌, drop}
-use Rattle.lv_struct.specs.Tuples.{all_among}
+use Rattle.lv_formula.specs.Tuples.{all_among}
 use Rattle.lv_struct.proofs.tuples.are_among.Given as goal
 
 abbrev pub invariant-loop-tuple : goal.invariant-loop-tuple

@@ -1,5 +1,5 @@
 use Rattle.std.proofs.Common.{◌≡◌, drop}
-use Rattle.lv_struct.specs.Tuples.{has_tuple}
+use Rattle.lv_formula.specs.Tuples.{has_tuple}
 use Rattle.lv_struct.proofs.tuples.contains_tuple.Given as goal
 
 abbrev pub invariant-loop-t : goal.invariant-loop-t

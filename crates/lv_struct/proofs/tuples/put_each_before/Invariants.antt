@@ -1,5 +1,5 @@
 use Rattle.std.proofs.Common.{◌≡◌}
-use Rattle.lv_struct.specs.Tuples.{each_before}
+use Rattle.lv_formula.specs.Tuples.{each_before}
 use Rattle.lv_struct.proofs.tuples.put_each_before.Given as goal
 
 abbrev pub invariant-loop-element : goal.invariant-loop-element

@@ -1,5 +1,5 @@
 use Rattle.std.proofs.Common.{◌≡◌, eqb, drop}
-use Rattle.lv_temporal.specs.Once.{is_among}
+use Rattle.lv_labels.specs.Once.{is_among}
 use Rattle.lv_syntax.proofs.labelled.is_declared.Given as goal
 
 abbrev pub invariant-loop-other : goal.invariant-loop-other

@@ -1,6 +1,6 @@
 use Rattle.std.proofs.Common.{◌≡◌, drop}
-use Rattle.lv_temporal.specs.Once.{is_among}
-use Rattle.lv_temporal.specs.Labels.{key_eq}
+use Rattle.lv_labels.specs.Once.{is_among}
+use Rattle.lv_labels.specs.Labels.{key_eq}
 use Rattle.lv_syntax.proofs.labelling.is_known.Given as goal
 
 abbrev pub invariant-loop-other : goal.invariant-loop-other

@@ -1,5 +1,5 @@
 use Rattle.std.proofs.Common.{◌≡◌, ◌+◌, drop}
-use Rattle.lv_temporal.specs.Labels.{number_of}
+use Rattle.lv_labels.specs.Labels.{number_of}
 use Rattle.lv_syntax.proofs.labelling.number.Given as goal
 
 abbrev pub invariant-loop-i : goal.invariant-loop-i

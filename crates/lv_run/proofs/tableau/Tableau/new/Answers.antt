@@ -1,5 +1,5 @@
 use Rattle.std.proofs.Common.{ap, sym, ◌∙◌}
-use Rattle.lv_temporal.specs.Table.{table_labels}
+use Rattle.lv_labels.specs.Table.{table_labels}
 use Rattle.lv_run.proofs.JudgeLemmas as Lemmas
 use Rattle.lv_run.proofs.tableau.Tableau.new.Goals as goal
 

@@ -1,6 +1,6 @@
 use Rattle.std.proofs.Common.{◌≡◌, ◌++◌, length, map, ap, ◌∙◌, rules}
-use Rattle.lv_show.specs.Systems.{shown_update}
-use Rattle.lv_show.proofs.LayoutLaw.{action_made}
+use Rattle.lv_grammar.specs.ShownSystems.{shown_update}
+use Rattle.lv_grammar.proofs.LayoutLaw.{action_made}
 use Rattle.lv_show.proofs.items.ActionItem.tree.Goals as goal
 
 pub returns : goal.returns

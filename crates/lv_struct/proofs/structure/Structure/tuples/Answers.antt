@@ -1,8 +1,8 @@
 use Rattle.std.proofs.Common.{◌≡◌, true, List, ℕ, AllPairs, ap, sym, subst, ◌∙◌}
 use Rattle.std.proofs.lemmas.Result.{IfOk-weaker}
-use Rattle.lv_struct.specs.Meaning.{in_range}
+use Rattle.lv_formula.specs.Meaning.{in_range}
 use Rattle.lv_struct.specs.Tables.{meaning, size_in}
-use Rattle.lv_struct.specs.Tuples.{has_tuple, tuple_lt, tuples_over}
+use Rattle.lv_formula.specs.Tuples.{has_tuple, tuple_lt, tuples_over}
 use Rattle.lv_struct.proofs.TupleLaws.{has_tuple-tuples_over, order-tuples_over}
 use Rattle.lv_struct.proofs.structure.Structure.tuples.Goals as goal
 

@@ -1,6 +1,6 @@
 use Rattle.std.proofs.Common.{◌≡◌, drop}
 use Rattle.lv_struct.specs.Tables.{size_in}
-use Rattle.lv_struct.specs.Tuples.{tuples_over}
+use Rattle.lv_formula.specs.Tuples.{tuples_over}
 use Rattle.lv_struct.proofs.structure.Structure.tuples_over.Given as goal
 
 abbrev pub invariant-loop-i : goal.invariant-loop-i

@@ -1,0 +1,16 @@
+pub mod FittingParts
+pub mod FormulaFits
+pub mod FormulaLaw
+pub mod ItemFits
+pub mod ItemLaws
+pub mod LayoutLaw
+pub mod Lifting
+pub mod Likeness
+pub mod Scopes
+pub mod ShownFormulas
+pub mod SpokenParts
+pub mod SymbolWords
+pub mod SystemLaw
+pub mod TextLaw
+pub mod Variables
+pub mod VocabularyWords

@@ -1,0 +1,35 @@
+//! What holds of the trees and texts that are shown, whatever the system: each law is the contract of a
+//! function that does nothing.
+
+ghost use Rattle.lv_grammar.specs.LayoutLaws.{ShownIsSpelled, ShownFits, SpelledHasWords, ShownTextSpells, FittingCanBeShown, SpelledCanBeShown};
+
+/// Where some tree spells a system, the tree that is shown spells it, the places aside.
+pub fn shown_is_spelled()
+    ensures { ShownIsSpelled }
+{}
+
+/// The items that are shown can be written.
+pub fn shown_fits()
+    ensures { ShownFits }
+{}
+
+/// Where some tree spells a system, the text that is shown spells it.
+pub fn shown_text_spells()
+    ensures { ShownTextSpells }
+{}
+
+/// Where some tree spells a system, the symbols of its invariants have words.
+pub fn spelled_has_words()
+    ensures { SpelledHasWords }
+{}
+
+/// Where the parts of a system fit and the symbols of its invariants have words, each of its formulas
+/// meets what `show_formula` asks, in the scope of the variables that stand before it.
+pub fn fitting_can_be_shown()
+    ensures { FittingCanBeShown }
+{}
+
+/// Where some tree spells a system, each of its formulas meets what `show_formula` asks.
+pub fn spelled_can_be_shown()
+    ensures { SpelledCanBeShown }
+{}

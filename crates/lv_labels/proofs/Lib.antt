@@ -1,0 +1,11 @@
+pub mod Few
+pub mod HoldsAt
+pub mod Keys
+pub mod LabelsAt
+pub mod Later
+pub mod Occurrences
+pub mod Once
+pub mod Places
+pub mod Plain
+pub mod Sameness
+pub mod Table

@@ -1,0 +1,13 @@
+pub mod Labels
+pub mod Monitor
+pub mod Obligations
+pub mod Once
+pub mod Positions
+pub mod Problem
+pub mod Renaming
+pub mod Renamings
+pub mod Rounds
+pub mod Runs
+pub mod Sameness
+pub mod Table
+pub mod Vocabularies

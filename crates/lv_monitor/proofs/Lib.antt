@@ -1,3 +1,0 @@
-pub mod Differ
-pub mod Found
-pub mod Words

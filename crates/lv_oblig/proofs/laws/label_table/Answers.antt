@@ -1,5 +1,0 @@
-use Rattle.lv_oblig.proofs.Rows.{rows_of_problem}
-use Rattle.lv_oblig.proofs.laws.label_table.Goals as goal
-
-pub returns : goal.returns
-returns c = rows_of_problem

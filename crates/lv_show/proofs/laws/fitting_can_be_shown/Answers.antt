@@ -1,5 +1,0 @@
-use Rattle.lv_show.proofs.ShownFormulas.{formulas_can_be_shown}
-use Rattle.lv_show.proofs.laws.fitting_can_be_shown.Goals as goal
-
-pub returns : goal.returns
-returns c p fits words = formulas_can_be_shown p fits words

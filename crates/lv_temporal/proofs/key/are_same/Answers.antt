@@ -1,5 +1,0 @@
-use Rattle.lv_temporal.proofs.Sameness.{temporal_test}
-use Rattle.lv_temporal.proofs.key.are_same.Goals as goal
-
-pub returns : goal.returns
-returns c = temporal_test c.equal.result c.args.f.now c.args.g.now c.equal.ensures

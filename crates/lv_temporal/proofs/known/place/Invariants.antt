@@ -1,7 +1,0 @@
-use Rattle.std.proofs.Common.{◌≡◌, ◌+◌, drop}
-use Rattle.lv_temporal.specs.Labels.{key_eq}
-use Rattle.lv_temporal.specs.Once.{place_of}
-use Rattle.lv_temporal.proofs.known.place.Given as goal
-
-abbrev pub invariant-loop-i : goal.invariant-loop-i
-invariant-loop-i l = l.i + place_of key_eq l.key (drop l.i l.keys) ≡ place_of key_eq l.key l.keys

@@ -1,6 +1,0 @@
-use Rattle.std.proofs.Common.{◌≡◌, ◌++◌, drop, map}
-use Rattle.lv_temporal.specs.Table.{own_key}
-use Rattle.lv_temporal.proofs.labelling.own_keys.Given as goal
-
-abbrev pub invariant-loop-label : goal.invariant-loop-label
-invariant-loop-label l = l.own.items ++ map own_key (drop l.label-index l.labels) ≡ map own_key l.labels
