@@ -40,4 +40,5 @@ ValidTextsHold = (bytes : List ℕ) (p : Parts) → Spells bytes p → AreValid 
 
 -- so bytes are proved that spell one system, if all obligations of it are valid
 abbrev pub ValidTextsAreProved : Type 0
-ValidTextsAreProved = (bytes : List ℕ) (p : Parts) → Spells bytes p → ((other : Parts) → Spells bytes other → other ≡ p) → AreValid p → IsProved bytes
+ValidTextsAreProved = (bytes : List ℕ) (p : Parts) → Spells bytes p → ((other : Parts) → Spells bytes other → other ≡ p) → AreValid p
+    → IsProved bytes

@@ -115,9 +115,11 @@ unfolding sym_eq
 inside m s = and_from (ltb (w m) (m.size node)) true (lt-ltb (w m) (m.size node) (s.constants (Witness 0) node refl)) refl
 
 -- what the label's equation says of it
-unfulfilled : (m : Meaning) → IsStructureOf (step_vocabulary q a) m → LabelEquation q m (λ l tuple. m.holds (Next l) tuple) → Known m → (is_done m ≡ false) × (m.holds (Next 0) (w m ∷ []) ≡ true)
+unfulfilled : (m : Meaning) → IsStructureOf (step_vocabulary q a) m → LabelEquation q m (λ l tuple. m.holds (Next l) tuple) → Known m
+    → (is_done m ≡ false) × (m.holds (Next 0) (w m ∷ []) ≡ true)
 unfulfilled m s eq k =
-    let both = and_parts (truth_in m (F.Not done) (reverse (w m ∷ []))) (m.holds (Next 0) (w m ∷ [])) (sym (eq 0 (omega arith) (w m ∷ []) (inside m s)) ∙ k.missed) in
+    let both = and_parts (truth_in m (F.Not done) (reverse (w m ∷ []))) (m.holds (Next 0) (w m ∷ []))
+        (sym (eq 0 (omega arith) (w m ∷ []) (inside m s)) ∙ k.missed) in
     (was_not (is_done m) (simp (FF.folds_at) at both.0), both.1)
   where
     was_not : (b : Bool) → not b ≡ true → b ≡ false
@@ -131,7 +133,8 @@ seen_then m none k = not_due (m.holds (Due 0) (w m ∷ [])) (is_seen m) k.visite
 -- ---- the start
 
 is_missed : (m : Meaning) → IsStart q m → m.holds (Label 0) (w m ∷ []) ≡ true
-is_missed m s = simp (FF.folds_at) at (s.chosen 0 (omega arith) (simp (FF.folds_at) (some_not (m.size node) (λ x. m.holds (Label 0) (x ∷ [])) (simp (FF.folds_at) at s.denied))))
+is_missed m s = simp (FF.folds_at) at (s.chosen 0 (omega arith)
+    (simp (FF.folds_at) (some_not (m.size node) (λ x. m.holds (Label 0) (x ∷ [])) (simp (FF.folds_at) at s.denied))))
 
 is_touched_at_first : (m : Meaning) → is_touched_first q m node (w m) ≡ true
 is_touched_at_first m = or_right (is_constant_value q.parts (λ c. m.value (Own c)) node (w m)) (is_witness_value q m node (w m))
@@ -155,12 +158,15 @@ start-saved m s b = false≢true (sym (simp (FF.folds_at) at b.fails))
 
 -- ---- steps
 
-seen_after : (mv : Move) (m : Meaning) → IsStructureOf (step_vocabulary q a) m → (is_seen m || is_there m) ≡ true → (stepped q mv a m).holds (Own 1) (w m ∷ []) ≡ true
-seen_after mv m s h = and_from (in_range m (node ∷ []) (w m ∷ [])) (truth_in m (F.Or (seen 0 ∷ (is_at 0 ∷ []))) (w m ∷ (m.value (Param 0) ∷ []))) (inside m s)
-    (simp (FF.folds_at) (or_end (is_seen m) (is_there m) h))
+seen_after : (mv : Move) (m : Meaning) → IsStructureOf (step_vocabulary q a) m → (is_seen m || is_there m) ≡ true
+    → (stepped q mv a m).holds (Own 1) (w m ∷ []) ≡ true
+seen_after mv m s h = and_from (in_range m (node ∷ []) (w m ∷ []))
+    (truth_in m (F.Or (seen 0 ∷ (is_at 0 ∷ []))) (w m ∷ (m.value (Param 0) ∷ []))) (inside m s) (simp (FF.folds_at) (or_end (is_seen m) (is_there m) h))
 
-done_after : (mv : Move) (m : Meaning) → IsStructureOf (step_vocabulary q a) m → is_seen m ≡ true → (stepped q mv a m).holds (Own 2) (w m ∷ []) ≡ true
-done_after mv m s h = and_from (in_range m (node ∷ []) (w m ∷ [])) (truth_in m (seen 0) (w m ∷ (m.value (Param 0) ∷ []))) (inside m s) (simp (FF.folds_at) h)
+done_after : (mv : Move) (m : Meaning) → IsStructureOf (step_vocabulary q a) m → is_seen m ≡ true
+    → (stepped q mv a m).holds (Own 2) (w m ∷ []) ≡ true
+done_after mv m s h = and_from (in_range m (node ∷ []) (w m ∷ [])) (truth_in m (seen 0) (w m ∷ (m.value (Param 0) ∷ []))) (inside m s)
+    (simp (FF.folds_at) h)
 
 -- where the next structure is frozen, the witness was seen
 seen_when : (mv : Move) (m : Meaning) → MayMove q mv m → Known m → (is_freeze mv || m.holds Frozen []) ≡ true → is_seen m ≡ true
@@ -172,19 +178,24 @@ step-missed : (mv : Move) → NotBroken q (W.Step 0 mv 0)
 step-missed mv m s b = false≢true (sym (simp (FF.folds_at) at b.fails) ∙ (unfulfilled m s b.labels (known m b.invariants)).1)
 
 step-visited : (mv : Move) → NotBroken q (W.Step 0 mv 1)
-step-visited Stay m s b = visit_fails (m.holds (Due 0) (w m ∷ [])) (is_there m) ((stepped q Stay a m).holds (Own 1) (w m ∷ [])) (simp (FF.folds_at) at b.fails)
+step-visited Stay m s b = visit_fails (m.holds (Due 0) (w m ∷ [])) (is_there m) ((stepped q Stay a m).holds (Own 1) (w m ∷ []))
+    (simp (FF.folds_at) at b.fails)
     (λ d e. seen_after Stay m s (or_right (is_seen m) (is_there m) e))
     (λ d. seen_after Stay m s (or_left (is_seen m) (is_there m) (not_due (m.holds (Due 0) (w m ∷ [])) (is_seen m) (known m b.invariants).visited d)))
 step-visited Freeze m s b =
     let now = seen_after Freeze m s (or_left (is_seen m) (is_there m) (seen_then m b.may_move.2 (known m b.invariants))) in
-    visit_fails (over (is_touched m) (node ∷ []) (w m ∷ [])) (is_there m) ((stepped q Freeze a m).holds (Own 1) (w m ∷ [])) (simp (FF.folds_at) at b.fails) (λ d e. now) (λ d. now)
+    visit_fails (over (is_touched m) (node ∷ []) (w m ∷ [])) (is_there m) ((stepped q Freeze a m).holds (Own 1) (w m ∷ []))
+    (simp (FF.folds_at) at b.fails) (λ d e. now) (λ d. now)
 step-visited Save m s b =
     let now = seen_after Save m s (or_left (is_seen m) (is_there m) (seen_then m b.may_move.2 (known m b.invariants))) in
-    visit_fails (over (is_touched m) (node ∷ []) (w m ∷ [])) (is_there m) ((stepped q Save a m).holds (Own 1) (w m ∷ [])) (simp (FF.folds_at) at b.fails) (λ d e. now) (λ d. now)
+    visit_fails (over (is_touched m) (node ∷ []) (w m ∷ [])) (is_there m) ((stepped q Save a m).holds (Own 1) (w m ∷ []))
+    (simp (FF.folds_at) at b.fails) (λ d e. now) (λ d. now)
 
 step-frozen : (mv : Move) → NotBroken q (W.Step 0 mv 2)
-step-frozen mv m s b = frozen_fails (is_freeze mv || m.holds Frozen []) ((stepped q mv a m).holds (Own 1) (w m ∷ [])) ((stepped q mv a m).holds (Own 2) (w m ∷ [])) (simp (FF.folds_at) at b.fails)
-    (λ f. let then = seen_when mv m b.may_move (known m b.invariants) f in (seen_after mv m s (or_left (is_seen m) (is_there m) then), done_after mv m s then))
+step-frozen mv m s b = frozen_fails (is_freeze mv || m.holds Frozen []) ((stepped q mv a m).holds (Own 1) (w m ∷ []))
+    ((stepped q mv a m).holds (Own 2) (w m ∷ [])) (simp (FF.folds_at) at b.fails)
+    (λ f. let then = seen_when mv m b.may_move (known m b.invariants) f in
+    (seen_after mv m s (or_left (is_seen m) (is_there m) then), done_after mv m s then))
 
 step-saved : (mv : Move) → NotBroken q (W.Step 0 mv 3)
 step-saved Stay m s b = false≢true (sym (simp (FF.folds_at) at b.fails) ∙ (known m b.invariants).saved)
@@ -227,7 +238,8 @@ all_not_broken =
     (one_more (W.Start 1) (W.Start 2 ∷ (W.Start 3 ∷ from_stay)) start-visited
     (one_more (W.Start 2) (W.Start 3 ∷ from_stay) start-frozen
     (one_more (W.Start 3) from_stay start-saved
-    (of_move Stay from_freeze (of_move Freeze from_save (of_move Save (W.Catch ∷ []) (one_more W.Catch [] catch (All-nil (NotBroken q)))))))))
+    (of_move Stay from_freeze (of_move Freeze from_save (of_move Save (W.Catch ∷ [])
+    (one_more W.Catch [] catch (All-nil (NotBroken q)))))))))
 
 pub visits_valid : AreValid visits
 visits_valid = All-weaker (NotBroken (problem_of visits)) (IsValid (problem_of visits))

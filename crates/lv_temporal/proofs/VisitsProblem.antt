@@ -111,8 +111,10 @@ unguarded_fits = simp (FF.folds, FF.folds_at, TF.folds, TF.folds_at) refl
 
 pub visits_invariants_fit : InvariantsFit visits
 unfolding sym_eq
-visits_invariants_fit = subst (λ r. all_fit_in (catch_vocabulary r) [] (invariants_of visits) ≡ true) (sym (problem-visits visits.invariants)) (simp (FF.folds_at) refl)
+visits_invariants_fit = subst (λ r. all_fit_in (catch_vocabulary r) [] (invariants_of visits) ≡ true)
+    (sym (problem-visits visits.invariants)) (simp (FF.folds_at) refl)
 
 pub unguarded_invariants_fit : InvariantsFit unguarded
 unfolding sym_eq
-unguarded_invariants_fit = subst (λ r. all_fit_in (catch_vocabulary r) [] (invariants_of unguarded) ≡ true) (sym (problem-visits unguarded.invariants)) (simp (FF.folds_at) refl)
+unguarded_invariants_fit = subst (λ r. all_fit_in (catch_vocabulary r) [] (invariants_of unguarded) ≡ true)
+    (sym (problem-visits unguarded.invariants)) (simp (FF.folds_at) refl)

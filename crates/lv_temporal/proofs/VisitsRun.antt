@@ -51,9 +51,12 @@ is_state : (m : Meaning) → ((s : _) → 0 < m.size s) → m.value (Own 0) < m.
 is_state m sizes own witness = record {
   sizes = sizes;
   constants = constant_found (λ c s. m.value c < m.size s) (at ∷ (w ∷ []))
-      (All-cons (λ c. m.value c.sym < m.size c.sort) at (w ∷ []) own (All-cons (λ c. m.value c.sym < m.size c.sort) w [] witness (All-nil (λ c. m.value c.sym < m.size c.sort))));
+      (All-cons Is at (w ∷ []) own (All-cons Is w [] witness (All-nil Is)));
 }
   where
+    Is : ConShape → Type 0
+    Is c = m.value c.sym < m.size c.sort
+
     at : ConShape
     at = record { sym = Own 0; sort = node }
 
@@ -63,7 +66,8 @@ is_state m sizes own witness = record {
 start : IsStart q unseen
 start = record { axioms = refl; inits = refl; denied = simp (FF.folds_at) refl; chosen = chosen }
   where
-    chosen : (k : ℕ) → k < 1 → truth_in unseen (F.Any (choice_at q k).sort (choice_at q k).body) [] ≡ true → truth_in unseen (choice_at q k).body (0 ∷ []) ≡ true
+    chosen : (k : ℕ) → k < 1 → truth_in unseen (F.Any (choice_at q k).sort (choice_at q k).body) [] ≡ true
+        → truth_in unseen (choice_at q k).body (0 ∷ []) ≡ true
     chosen zero l h = simp (FF.folds_at) refl
     chosen (suc k) l h = absurd (omega (arith, l))
 
@@ -87,10 +91,12 @@ second_equation (suc l) b tuple inside = absurd (omega (arith, b))
 
 run : IsLabelledRun q two_moves
 run = record {
-  structures = three (λ i. IsState q (after_moves i)) (is_state unseen (λ s. below) below below) (is_state (after_moves 1) (λ s. below) below below) (is_state (after_moves 2) (λ s. below) below below);
+  structures = three (λ i. IsState q (after_moves i)) (is_state unseen (λ s. below) below below)
+      (is_state (after_moves 1) (λ s. below) below below) (is_state (after_moves 2) (λ s. below) below below);
   start = start;
   actions = λ i l. below;
-  allowed = two (λ i. IsAllowed (action_at visits 0) (0 ∷ []) (after_moves i)) (record { in_sorts = refl; guard = simp (FF.folds_at) refl }) (record { in_sorts = refl; guard = simp (FF.folds_at) refl });
+  allowed = two (λ i. IsAllowed (action_at visits 0) (0 ∷ []) (after_moves i))
+      (record { in_sorts = refl; guard = simp (FF.folds_at) refl }) (record { in_sorts = refl; guard = simp (FF.folds_at) refl });
   steps = λ i l. record { sizes = λ s. refl; relations = λ r tuple. refl; constants = λ c. refl };
   witnesses = λ i l k. refl;
   labels = two (λ i. LabelEquation q (after_moves i) (λ l tuple. (after_moves (suc i)).holds (Label l) tuple)) first_equation second_equation;
@@ -106,7 +112,8 @@ only_node i l x h = let k : x < 1 = ltb-true x 1 (touched_in_range q two_moves f
 here : (m : Meaning) → m.value (Own 0) ≡ 0 → (x : ℕ) → x ≡ 0 → truth_in m (is_at 0) (reverse (x ∷ [])) ≡ true
 here m e x z = simp (FF.folds_at) (rw (e, z) refl)
 
-visited : (i : ℕ) → i ≤ 2 → (after_moves i).value (Own 0) ≡ 0 → (tuple : List ℕ) → over (touched q two_moves i) (node ∷ []) tuple ≡ true → truth_in (after_moves i) (is_at 0) (reverse tuple) ≡ true
+visited : (i : ℕ) → i ≤ 2 → (after_moves i).value (Own 0) ≡ 0 → (tuple : List ℕ) → over (touched q two_moves i) (node ∷ []) tuple ≡ true
+    → truth_in (after_moves i) (is_at 0) (reverse tuple) ≡ true
 visited i l e [] o = absurd (false≢true o)
 visited i l e (x ∷ []) o = here (after_moves i) e x (only_node i l x (and_parts (touched q two_moves i node x) true o).0)
 visited i l e (x ∷ (y ∷ ys)) o = absurd (false≢true (and_parts (touched q two_moves i node x) false o).1)
@@ -154,7 +161,8 @@ structure : IsStructureOf (catch_vocabulary u) moved_outside
 structure = record {
   sizes = λ s. omega arith;
   constants = constant_found (λ c s. moved_outside.value c < 3) (at ∷ (w ∷ (saved_at ∷ [])))
-      (All-cons Is at (w ∷ (saved_at ∷ [])) (within 1 (omega arith)) (All-cons Is w (saved_at ∷ []) (within 0 (omega arith)) (All-cons Is saved_at [] (within 2 (omega arith)) (All-nil Is))));
+      (All-cons Is at (w ∷ (saved_at ∷ [])) (within 1 (omega arith))
+      (All-cons Is w (saved_at ∷ []) (within 0 (omega arith)) (All-cons Is saved_at [] (within 2 (omega arith)) (All-nil Is))));
 }
   where
     Is : ConShape → Type 0

@@ -15,10 +15,13 @@ use Rattle.lv_labels.specs.Monitor.{LooksSaved, is_kept, shown}
 -- Both structures have one projection to the set: each changing relation and each label has the same tuples over the set, and
 -- each changing constant is the same element of the set, or outside the set in both.
 pub record LooksLike (q : Problem) (set : SortId → ℕ → Bool) (m n : Meaning) : Type 0 where
-  pub relations : (r : ℕ) (sorts : List SortId) → r < length q.parts.symbols → (symbol_at q.parts r).fixed ≡ false → relation_sorts (symbol_at q.parts r).shape ≡ Some sorts
+  pub relations : (r : ℕ) (sorts : List SortId) → r < length q.parts.symbols → (symbol_at q.parts r).fixed ≡ false
+      → relation_sorts (symbol_at q.parts r).shape ≡ Some sorts
       → (tuple : List ℕ) → over set sorts tuple ≡ true → m.holds (Own r) tuple ≡ n.holds (Own r) tuple
-  pub labels : (l : ℕ) → l < length q.labels → (tuple : List ℕ) → over set (label_at q l).sorts tuple ≡ true → m.holds (Label l) tuple ≡ n.holds (Label l) tuple
-  pub constants : (c : ℕ) (sort : SortId) → c < length q.parts.symbols → (symbol_at q.parts c).fixed ≡ false → constant_sort (symbol_at q.parts c).shape ≡ Some sort
+  pub labels : (l : ℕ) → l < length q.labels → (tuple : List ℕ) → over set (label_at q l).sorts tuple ≡ true
+      → m.holds (Label l) tuple ≡ n.holds (Label l) tuple
+  pub constants : (c : ℕ) (sort : SortId) → c < length q.parts.symbols → (symbol_at q.parts c).fixed ≡ false
+      → constant_sort (symbol_at q.parts c).shape ≡ Some sort
       → shown (set sort) (m.value (Own c)) ≡ shown (set sort) (n.value (Own c))
 
 -- each element of the set is among so many
@@ -27,7 +30,8 @@ IsWithin size set = (s : SortId) (e : ℕ) → set s e ≡ true → e < size s
 
 -- each own constant of the structure is among so many elements
 abbrev pub AreConstantsWithin : Problem → (SortId → ℕ) → Meaning → Type 0
-AreConstantsWithin q size m = (c : ℕ) (s : SortId) → c < length q.parts.symbols → constant_sort (symbol_at q.parts c).shape ≡ Some s → m.value (Own c) < size s
+AreConstantsWithin q size m = (c : ℕ) (s : SortId) → c < length q.parts.symbols
+    → constant_sort (symbol_at q.parts c).shape ≡ Some s → m.value (Own c) < size s
 
 -- A number for each projection to the set: it is below the number of valuations, and structures have one number exactly where they
 -- have one projection.
@@ -40,7 +44,8 @@ pub record Numbering (q : Problem) (set : SortId → ℕ → Bool) (size : SortI
 -- on each labelled run the elements touched at a position and the constants there are elements of the run's sorts, as a numbering
 -- asks of them
 abbrev pub RunsAreWithin : Problem → Type 0
-RunsAreWithin q = (r : Run) → IsLabelledRun q r → (i : ℕ) → i ≤ r.last → IsWithin (r.at 0).size (touched q r i) × AreConstantsWithin q (r.at 0).size (r.at i)
+RunsAreWithin q = (r : Run) → IsLabelledRun q r → (i : ℕ) → i ≤ r.last
+    → IsWithin (r.at 0).size (touched q r i) × AreConstantsWithin q (r.at 0).size (r.at i)
 
 -- ---- the copies in a monitored structure
 
