@@ -22,39 +22,11 @@ use Rattle.lv_system.specs.declared.parts.WitnessDecl.{WitnessDecl}
 use Rattle.lv_system.specs.declared.parts.Invariant.{Invariant}
 use Rattle.lv_system.specs.Vocabularies.{fixed_vocabulary, own_vocabulary}
 use Rattle.lv_system.specs.InvariantWords.{invariant_vocabulary, is_label_word}
-use Rattle.lv_system.specs.Limits.{is_small, in_item, iffs_of, lists_of, counts_fit}
+use Rattle.lv_system.specs.Limits.{is_small, in_item, iffs_of, lists_of}
 use Rattle.lv_system.specs.TemporalLimits.{is_small_temporal, temporal_iffs_of, temporal_lists_of}
-use Rattle.lv_system.specs.Names.{names_fit}
-use Rattle.lv_system.specs.Fits.{are_sorts_below, shape_fits, shapes_fit, formula_fits, formulas_fit, axioms_fit, inits_fit, update_fits, updates_fit, action_fits, actions_fit, fair_fits, fairs_fit, label_fits, labels_fit, witness_fits, witnesses_fit, property_fits, invariant_fits, invariants_fit, fits_parts}
-use Rattle.lv_system.proofs.FitsFacts.{fit_action, fit_fair, fit_label, fit_witness, fit_relation}
+use Rattle.lv_system.specs.Fits.{are_sorts_below, shape_fits, shapes_fit, formula_fits, formulas_fit, update_fits, updates_fit, action_fits, actions_fit, fair_fits, fairs_fit, label_fits, labels_fit, witness_fits, witnesses_fit, invariant_fits, invariants_fit, fits_parts}
+use Rattle.lv_system.proofs.FitsFacts.{tests, fit_action, fit_fair, fit_label, fit_witness, fit_relation}
 use Rattle.lv_grammar.specs.Grammar.{arguments_of, argument_sorts}
-
--- the tests of the kinds of items
-pub record Fit (p : Parts) : Type 0 where
-  pub names : names_fit p ≡ true
-  pub shapes : shapes_fit (length p.sorts) p.symbols ≡ true
-  pub axioms : axioms_fit p ≡ true
-  pub inits : inits_fit p ≡ true
-  pub actions : actions_fit p p.actions ≡ true
-  pub fairs : fairs_fit p p.fairs ≡ true
-  pub labels : labels_fit p p.labels ≡ true
-  pub witnesses : witnesses_fit p 0 p.witnesses ≡ true
-  pub property : property_fits p ≡ true
-  pub invariants : invariants_fit p p.invariants ≡ true
-
-pub fit : (p : Parts) → fits_parts p ≡ true → Fit p
-fit p h =
-    let a = and_parts (counts_fit p) _ h in
-    let b = and_parts (names_fit p) _ a.1 in
-    let c = and_parts (shapes_fit (length p.sorts) p.symbols) _ b.1 in
-    let d = and_parts (axioms_fit p) _ c.1 in
-    let e = and_parts (inits_fit p) _ d.1 in
-    let f = and_parts (actions_fit p p.actions) _ e.1 in
-    let g = and_parts (fairs_fit p p.fairs) _ f.1 in
-    let i = and_parts (labels_fit p p.labels) _ g.1 in
-    let j = and_parts (witnesses_fit p 0 p.witnesses) _ i.1 in
-    let k = and_parts (property_fits p) (invariants_fit p p.invariants) j.1 in
-    record { names = b.0; shapes = c.0; axioms = d.0; inits = e.0; actions = f.0; fairs = g.0; labels = i.0; witnesses = j.0; property = k.0; invariants = k.1 }
 
 -- what a test of each item says of each
 pub holds_from : {X : Type 0} (P : X → Type 0) (test : X → Bool) (all : List X → Bool) → ((x : X) (xs : List X) → all (x ∷ xs) ≡ (test x && all xs)) → ((x : X) → test x ≡ true → P x) → (xs : List X) → all xs ≡ true → Holds P xs
@@ -148,7 +120,7 @@ pub record Small (p : Parts) : Type 0 where
 
 pub small : (p : Parts) → fits_parts p ≡ true → Small p
 small p h =
-    let f = fit p h in
+    let f = tests p h in
     record {
       axioms = small_formulas (fixed_vocabulary p) p.axioms f.axioms;
       inits = small_formulas (own_vocabulary p) p.inits f.inits;

@@ -27,7 +27,7 @@ use Rattle.lv_system.specs.Step.{no_symbol}
 use Rattle.lv_system.specs.Limits.{is_small, in_item, lists_of}
 use Rattle.lv_system.specs.Names.{is_name, are_names}
 use Rattle.lv_system.specs.Fits.{is_sort_below, are_sorts_below, shape_fits, shapes_fit, formula_fits, formulas_fit, update_fits, updates_fit, action_fits, actions_fit, fair_fits, fairs_fit, label_fits, labels_fit, witness_fits, witnesses_fit, fits_parts}
-use Rattle.lv_system.proofs.FitsFacts.{fit_action, fit_fair, fit_label, fit_witness, fit_relation, fit_constant, fitting}
+use Rattle.lv_system.proofs.FitsFacts.{tests, fit_action, fit_fair, fit_label, fit_witness, fit_relation, fit_constant, fitting}
 use Rattle.lv_grammar.specs.Words.{sort_name, own_name}
 use Rattle.lv_grammar.specs.Lifted.{lifted}
 use Rattle.lv_grammar.specs.Grammar.{argument_sorts}
@@ -35,8 +35,8 @@ use Rattle.lv_grammar.specs.ShownFormulas.{word, list, variable_name, deeper, sh
 use Rattle.lv_grammar.specs.HaveWords.{has_words, invariants_have_words}
 use Rattle.lv_grammar.specs.ShownSystems.{shown_mark, shown_sort, shape_word, shown_sort_name, shown_shape, shown_symbol, shown_pairs, shown_names, shown_parameters, shown_lone, deeper_by, shown_update, shown_action, shown_declaration, shown_fair, shown_label, shown_witness, shown_property, shown_invariant, shown_items}
 use Rattle.lv_grammar.proofs.FormulaFits.{word_fits, list_fits, items_fit, many_parts, one_part, two_parts, variable_fits, deeper_below, term_fits, temporal_can_be_written, formula_can_be_written}
-use Rattle.lv_grammar.proofs.FittingParts.{fit, holds_from, small_lists, small_temporal_lists, IsSmallInvariant, small}
-use Rattle.lv_grammar.proofs.SymbolWords.{Named, named, short_name, short_text, short_sort, short_own}
+use Rattle.lv_grammar.proofs.FittingParts.{holds_from, small_lists, small_temporal_lists, IsSmallInvariant, small}
+use Rattle.lv_grammar.proofs.SymbolWords.{HaveNames, have_names, short_name, short_text, short_sort, short_own}
 use Rattle.lv_grammar.proofs.VocabularyWords.{AreSpoken, fitting_has_words, sorted_has_word, is_sorted}
 use Rattle.lv_grammar.proofs.SpokenParts.{fixed_spoken, own_spoken, witness_spoken, formula_has_words}
 
@@ -84,7 +84,7 @@ symbol_in_range [] n h = absurd cc
 symbol_in_range (s ∷ ss) zero h = omega arith
 symbol_in_range (s ∷ ss) (suc n) h = let lt = symbol_in_range ss n h in omega (arith, lt)
 
-module _ (p : Parts) (n : Named p) where
+module _ (p : Parts) (n : HaveNames p) where
   sort_name_fits : (room : ℕ) (s : SortId) → is_sort_below (length p.sorts) s ≡ true → fits_in room (shown_sort_name p s) ≡ true
   sort_name_fits room s h = word_fits room (sort_name p s) (short_text (short_sort p n s (ltb-true s.0 (length p.sorts) h)))
 
@@ -232,8 +232,8 @@ named_fit name test all form room apart one xs h e =
 -- each word of the items has 1 to 64 word bytes, and lists in them nest at most 59 deep
 pub items_can_be_written : (p : Parts) → fits_parts p ≡ true → invariants_have_words p p.invariants ≡ true → (room : ℕ) → 59 ≤ room → all_fit_in room (shown_items p) ≡ true
 items_can_be_written p fits words room le =
-    let f = fit p fits in
-    let n = named p f.names in
+    let f = tests p fits in
+    let n = have_names p f.names in
     let property_words = fitting_has_words p (own_vocabulary p) (own_spoken p n) p.property [] (fitting p fits).property in
     let deep = small_temporal_lists p.property (fitting p fits).small in
     let property = one_part (codes "property") (shown_temporal p p.property 0) room refl (omega (arith, le)) (temporal_can_be_written p p.property (room - 1) 0 property_words (omega (arith, le, deep)) (omega arith)) in

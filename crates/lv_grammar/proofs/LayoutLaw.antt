@@ -98,12 +98,6 @@ laid name items text fits =
       same = bare_list 0 last parts (word (codes "system") ∷ word name ∷ items) (rw (bare_word 1 system_word, bare_word 8 name, l.same) refl);
     }
 
--- the next of trees that fit does
-pub next_fits : (room : ℕ) (ts : List Tree) (i : ℕ) (t : Tree) → i < length ts → t ≡ get_or ts i t → all_fit_in room (drop i ts) ≡ true → fits_in room t ≡ true
-next_fits room [] i t lt e h = absurd (omega (arith, lt))
-next_fits room (x ∷ xs) zero t lt e h = subst (λ z. fits_in room z ≡ true) (sym e) (and_parts (fits_in room x) (all_fit_in room xs) h).0
-next_fits room (x ∷ xs) (suc i) t lt e h = next_fits room xs i t (omega (arith, lt)) e h
-
 -- four lists behind another, one after the other
 pub behind_four : {X : Type 0} (t a b c d t1 t2 t3 t4 : List X) → t1 ≡ t ++ a → t2 ≡ t1 ++ b → t3 ≡ t2 ++ c → t4 ≡ t3 ++ d → t4 ≡ t ++ (a ++ (b ++ (c ++ d)))
 behind_four t a b c d t1 t2 t3 t4 e f g h =

@@ -22,7 +22,7 @@ use Rattle.lv_system.specs.declared.parts.Invariant.{Invariant}
 use Rattle.lv_system.specs.Vocabularies.{relation_sorts, constant_sort, relation_if, constant_if, relations_from, constants_from, witnesses_from, any_symbol, is_fixed, fixed_vocabulary, own_vocabulary, witness_vocabulary}
 use Rattle.lv_system.specs.InvariantWords.{is_changing, sets_from, dues_from, marks, invariant_relations, invariant_constants, invariant_vocabulary}
 use Rattle.lv_system.specs.Fits.{fits_parts}
-use Rattle.lv_system.proofs.FitsFacts.{fitting}
+use Rattle.lv_system.proofs.FitsFacts.{tests, fitting}
 use Rattle.lv_labels.specs.declared.key.Key.{Key}
 use Rattle.lv_labels.specs.Labels.{labels_of}
 use Rattle.lv_grammar.specs.Lifted.{lifted}
@@ -30,8 +30,7 @@ use Rattle.lv_grammar.specs.LabelLimits.{label_shapes, label_relations, spoken_v
 use Rattle.lv_grammar.specs.Spelling.{SpellsSystem}
 use Rattle.lv_grammar.specs.HaveWords.{has_word, has_words, invariants_have_words}
 use Rattle.lv_grammar.proofs.Lifting.{fits_lifted}
-use Rattle.lv_grammar.proofs.FittingParts.{fit}
-use Rattle.lv_grammar.proofs.SymbolWords.{Named, named, short_sort, short_text, own_has_word, copy_has_word, witness_has_word, touched_has_word, kept_has_word, due_has_word, label_has_word, label_copy_has_word}
+use Rattle.lv_grammar.proofs.SymbolWords.{HaveNames, have_names, short_sort, short_text, own_has_word, copy_has_word, witness_has_word, touched_has_word, kept_has_word, due_has_word, label_has_word, label_copy_has_word}
 use Rattle.lv_grammar.proofs.VocabularyWords.{AreSpoken, fitting_has_words}
 
 module _ (p : Parts) where
@@ -94,7 +93,7 @@ module _ (p : Parts) where
   constants_both : (xs ys : List ConShape) → constants_spoken xs ≡ true → constants_spoken ys ≡ true → constants_spoken (xs ++ ys) ≡ true
   constants_both xs ys h k = list_all-append (λ c. has_word p c.sym) xs ys ∙ and_from (constants_spoken xs) (constants_spoken ys) h k
 
-  module _ (n : Named p) where
+  module _ (n : HaveNames p) where
     owns : Spoken Own 0 p.symbols
     owns i lt = own_has_word p n i (omega (arith, lt))
 
@@ -176,7 +175,7 @@ limits_have_words p fits h =
     let b = and_parts (are_narrow (labels_of p)) _ a.1 in
     let c = and_parts _ _ b.1 in
     let d = and_parts _ (invariants_fit_in (spoken_vocabulary p) p.invariants) c.1 in
-    invariants_spoken p (spoken_vocabulary p) (all_spoken p (named p (fit p fits).names) (fitting p fits).few.fairs (leb-true (length (labels_of p)) 32 a.0)) p.invariants d.1
+    invariants_spoken p (spoken_vocabulary p) (all_spoken p (have_names p (tests p fits).names) (fitting p fits).few.fairs (leb-true (length (labels_of p)) 32 a.0)) p.invariants d.1
 
 pub spelled_has_words : (p : Parts) (t : Tree) → SpellsSystem p t → invariants_have_words p p.invariants ≡ true
 spelled_has_words p t s = limits_have_words p s.fits s.labels

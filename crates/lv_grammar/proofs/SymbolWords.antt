@@ -66,7 +66,7 @@ short_among (n ∷ ns) zero h lt = short_name n (and_parts (is_name n) (are_name
 short_among (n ∷ ns) (suc i) h lt = short_among ns i (and_parts (is_name n) (are_names ns) h).1 (omega (arith, lt))
 
 -- the names of a system, kind by kind
-pub record Named (p : Parts) : Type 0 where
+pub record HaveNames (p : Parts) : Type 0 where
   pub system : is_name p.name ≡ true
   pub sorts : are_names (map (λ s. s.name) p.sorts) ≡ true
   pub symbols : are_names (map (λ s. s.name) p.symbols) ≡ true
@@ -76,8 +76,8 @@ pub record Named (p : Parts) : Type 0 where
   pub witnesses : are_names (map (λ w. w.name) p.witnesses) ≡ true
   pub invariants : are_names (map (λ i. i.name) p.invariants) ≡ true
 
-pub named : (p : Parts) → names_fit p ≡ true → Named p
-named p h =
+pub have_names : (p : Parts) → names_fit p ≡ true → HaveNames p
+have_names p h =
     let all = sym (names_parted p) ∙ (and_parts (are_names (names_of p)) (each_stands_once (names_of p) (names_of p)) h).0 in
     let a = and_parts (is_name p.name) _ all in
     let b = and_parts (are_names (map (λ s. s.name) p.sorts)) _ a.1 in
@@ -98,7 +98,7 @@ declared_short table k (l ∷ ls) name h e =
     go true first rest e = let q : l.name ≡ name = cc in subst Short q first
     go false first rest e = rest e
 
-short_label : (p : Parts) → Named p → (k : ℕ) → k < 2 ^ 64 → Short (label_word p k)
+short_label : (p : Parts) → HaveNames p → (k : ℕ) → k < 2 ^ 64 → Short (label_word p k)
 short_label p n k lt = go (label_name p k) (λ name. declared_short (labels_of p) k p.labels name n.labels) where
   go : (o : Option (List ℕ)) → ((name : List ℕ) → o ≡ Some name → Short name) → Short (name_or_number k o)
   go None h =
@@ -107,7 +107,7 @@ short_label p n k lt = go (label_name p k) (λ name. declared_short (labels_of p
       record { some = omega (arith, long); few = omega (arith, long, short); bytes = list_all-append is_word_byte (codes "label.") (decimal k) ∙ rw (decimal_bytes k lt) refl }
   go (Some name) h = h name refl
 
-module _ (p : Parts) (n : Named p) where
+module _ (p : Parts) (n : HaveNames p) where
   pub short_sort : (s : SortId) → s.0 < length p.sorts → Short (sort_name p s)
   short_sort s lt = let e = length-map p.sorts (λ x. x.name) in short_among (map (λ x. x.name) p.sorts) s.0 n.sorts (omega (arith, lt, e))
 

@@ -2,16 +2,13 @@
 use Rattle.std.proofs.Common.{◌≡◌, ℕ, true, List, [], ◌∷◌, ◌++◌, ap, ◌∙◌, append_assoc, arith}
 use Rattle.std.specs.Prelude.{codes}
 use Rattle.lv_tree.specs.declared.tree.Tree.{Tree}
-use Rattle.lv_tree.specs.Spelling.{all_fit_in}
 use Rattle.lv_tree.specs.Writing.{bare}
-use Rattle.lv_system.specs.Fits.{fits_parts}
-use Rattle.lv_grammar.specs.HaveWords.{invariants_have_words}
+use Rattle.lv_system.proofs.FitsFacts.{tests}
 use Rattle.lv_system.specs.declared.parts.Parts.{Parts}
 use Rattle.lv_grammar.specs.Spelling.{SpellsSystem, Spells}
 use Rattle.lv_grammar.specs.ShownSystems.{shown_items, shown_system}
 use Rattle.lv_grammar.specs.Layout.{in_lines, shown_text}
-use Rattle.lv_grammar.proofs.FittingParts.{fit}
-use Rattle.lv_grammar.proofs.SymbolWords.{named, short_name, short_text}
+use Rattle.lv_grammar.proofs.SymbolWords.{have_names, short_name, short_text}
 use Rattle.lv_grammar.proofs.SpokenParts.{spelled_has_words}
 use Rattle.lv_grammar.proofs.ItemFits.{items_can_be_written}
 use Rattle.lv_grammar.proofs.SystemLaw.{system_shown}
@@ -22,13 +19,9 @@ shown_is_spelled p t u s e = record { written = system_shown p t u s.fits s.writ
 
 pub shown_text_spells : (p : Parts) (t : Tree) → SpellsSystem p t → Spells (shown_text p) p
 shown_text_spells p t s =
-    let text = short_text (short_name p.name (named p (fit p s.fits).names).system) in
+    let text = short_text (short_name p.name (have_names p (tests p s.fits).names).system) in
     let l = laid p.name (shown_items p) text (items_can_be_written p s.fits (spelled_has_words p t s) 63 (omega arith)) in
     record { tree = l.tree; spelled = l.spelled; system = shown_is_spelled p t l.tree s l.same }
-
--- the items of a system can be written line by line
-pub lines_fit : (p : Parts) (ts : List Tree) → ts ≡ shown_items p → fits_parts p ≡ true → invariants_have_words p p.invariants ≡ true → all_fit_in 64 ts ≡ true
-lines_fit p ts e fits words = rw e (items_can_be_written p fits words 64 (omega arith))
 
 pub text_again : (bytes : List ℕ) (p : Parts) (t : Tree) → bytes ≡ shown_text p → SpellsSystem p t → Spells bytes p
 text_again bytes p t e s = rw e (shown_text_spells p t s)

@@ -1,6 +1,5 @@
 //! What holds of the trees and texts that are shown, whatever the system: each law is the contract of a
 //! function that does nothing.
-
 ghost use Rattle.lv_grammar.specs.LayoutLaws.{ShownIsSpelled, ShownFits, SpelledHasWords, ShownTextSpells, FittingCanBeShown, SpelledCanBeShown};
 
 /// Where some tree spells a system, the tree that is shown spells it, the places aside.
@@ -24,7 +23,7 @@ pub fn spelled_has_words()
 {}
 
 /// Where the parts of a system fit and the symbols of its invariants have words, each of its formulas
-/// meets what `show_formula` asks, in the scope of the variables that stand before it.
+/// meets what `show_formula` asks.
 pub fn fitting_can_be_shown()
     ensures { FittingCanBeShown }
 {}

@@ -1,5 +1,7 @@
 pub mod Few
+pub mod FirstLabels
 pub mod HoldsAt
+pub mod InContext
 pub mod Keys
 pub mod LabelsAt
 pub mod Later

@@ -1,5 +1,5 @@
 //! A list of labels, in which each counts once.
-ghost use Rattle.std.specs.Prelude.{◌≡◌, ◌∷◌, ◌<◌, ◌^◌, [], OnOk, OnErr, length};
+ghost use Rattle.std.specs.Prelude.{◌≡◌, ◌∷◌, ◌<◌, ◌^◌, [], IfOk, OnOk, OnErr, length};
 ghost use Rattle.lv_labels.specs.Labels.{key_eq, number_of};
 ghost use Rattle.lv_labels.specs.Once.{is_among, once_behind, place_of};
 
@@ -43,6 +43,15 @@ impl KnownKeys {
         }
     }
 
+    /// The same labels, whose formulas share their parts with these. The error is want of memory.
+    pub fn copy(&self, alloc: Global) -> Result<KnownKeys, Memory>
+        ensures { IfOk result (λ copy. copy ≡ self.now) }
+    {
+        Ok(KnownKeys {
+            items: shared(alloc, self.items.as_slice())?,
+        })
+    }
+
     /// The labels, by their number.
     pub fn as_slice(&self) -> &[Key]
         ensures items { result.now ≡ self.now }
@@ -82,6 +91,17 @@ impl KnownKeys {
         self.items.push(key)?;
         Ok(())
     }
+}
+
+/// The labels again. The error is want of memory.
+fn shared(alloc: Global, keys: &[Key]) -> Result<Vec<Key>, Memory>
+    ensures { IfOk result (λ copy. copy.items ≡ keys.now) }
+{
+    let mut copy = Vec::new(alloc);
+    for key in keys {
+        copy.push(key.share(alloc)?)?;
+    }
+    Ok(copy)
 }
 
 fn is_known(known: &[Key], key: &Key) -> bool

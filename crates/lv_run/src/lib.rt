@@ -16,7 +16,6 @@ mod labels;
 pub mod laws;
 mod mode;
 mod monitor;
-mod named;
 mod obligations;
 mod reader;
 mod tableau;

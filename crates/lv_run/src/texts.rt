@@ -4,7 +4,6 @@ ghost use Rattle.lv_grammar.specs.Words.{symbol_word};
 ghost use Rattle.lv_run.specs.Obligations.{words_of, obligation_at};
 ghost use Rattle.lv_run.specs.Texts.{name_at, tuple_text, relation_text, relation_texts, structure_text, move_text, invariant_text, obligation_text, counter_text, proved_text, refusal_text, tree_refusal_text, kind_text, syntax_refusal_text};
 
-use crate::named::Named;
 use crate::obligations::obligation;
 use crate::tableau::Tableau;
 use crate::which::{Move, Which};
@@ -13,7 +12,7 @@ use itoa::Buffer;
 use lv_formula::{Memory, Sym};
 use lv_show::show_sym;
 use lv_syntax::{Kind, SyntaxFault};
-use lv_system::Parts;
+use lv_system::{HasName, Parts};
 use lv_tree::TreeFault;
 use std::alloc::Global;
 
@@ -26,8 +25,8 @@ fn push_number(text: &mut Vec<u8>, number: u32) -> Result<(), Memory>
 }
 
 /// Adds the name of the item with this number.
-fn push_name<T: Named>(text: &mut Vec<u8>, items: &[T], number: u32) -> Result<(), Memory>
-    ensures { OnOk result (text.new.items ≡ text.old.items ++ name_at T.named items.now number) }
+fn push_name<T: HasName>(text: &mut Vec<u8>, items: &[T], number: u32) -> Result<(), Memory>
+    ensures { OnOk result (text.new.items ≡ text.old.items ++ name_at T.text items.now number) }
 {
     match items.get(number as usize) {
         Some(item) => text.extend_from_slice(item.name())?,

@@ -7,28 +7,22 @@ use Rattle.std.specs.Option.{option_map}
 use Rattle.std.proofs.lemmas.Option.{slice_get-map, slice_get-get_or, slice_get_past}
 use Rattle.std.specs.Prelude.{◌||◌}
 use Rattle.std.proofs.lemmas.List.{get_or-map, length-map}
-use Rattle.lv_formula.specs.declared.symbols.SortId.{SortId}
-use Rattle.lv_formula.specs.declared.temporal.Temporal.{Temporal}
-use Rattle.lv_formula.specs.declared.temporal.Temporal.TheVariants as T
 use Rattle.lv_formula.proofs.Induction.{Each}
-use Rattle.lv_formula.proofs.TemporalFolds as tf
-use Rattle.lv_formula.proofs.TemporalInduction.{by_cases}
 use Rattle.lv_system.specs.declared.parts.Parts.{Parts}
 use Rattle.lv_system.specs.declared.parts.LabelDecl.{LabelDecl}
-use Rattle.lv_system.specs.Fits.{is_always_step, is_always, label_fits, labels_fit, fits_parts}
-use Rattle.lv_system.proofs.FitsFacts.{fit_label}
+use Rattle.lv_system.specs.Fits.{is_always, label_fits, labels_fit, fits_parts}
+use Rattle.lv_system.proofs.FitsFacts.{tests, fit_label}
 use Rattle.lv_labels.specs.declared.key.Key.{Key}
 use Rattle.lv_labels.specs.declared.labelling.Label.{Label}
-use Rattle.lv_labels.specs.Once.{is_among, once_behind, each_once, place_of}
-use Rattle.lv_labels.specs.Labels.{key_eq, key_of, plain, keys_of, keys_of_labels, keys_of_witnesses, labels_of, number_of, no_key}
+use Rattle.lv_labels.specs.Once.{is_among, once_behind, place_of}
+use Rattle.lv_labels.specs.Labels.{key_eq, keys_of, keys_of_labels, keys_of_witnesses, labels_of, number_of, no_key}
 use Rattle.lv_labels.specs.Table.{own_key, name_among, label_row, table_labels}
-use Rattle.lv_labels.proofs.LabelsAt.{keys-Always}
+use Rattle.lv_labels.proofs.FirstLabels.{always_starts}
 use Rattle.lv_labels.proofs.Once.{Decides}
 use Rattle.lv_labels.proofs.Sameness.{key_decides}
-use Rattle.lv_labels.proofs.Table.{IsIn, EachPart, each_in}
-use Rattle.lv_grammar.specs.Words.{has_number, declared_name, label_name, name_or_number, label_word}
+use Rattle.lv_labels.proofs.Table.{IsIn, each_in}
+use Rattle.lv_grammar.specs.Words.{declared_name, label_name, name_or_number, label_word}
 use Rattle.lv_show.specs.Tables.{IsTable, named_by, row_declaration, declaration_in}
-use Rattle.lv_grammar.proofs.FittingParts.{fit}
 
 -- ---- each item of a list in which each counts once stands at its place
 
@@ -90,34 +84,6 @@ module _ {X : Type 0} (same : X → X → Bool) (decides : Decides same) where
 
 -- ---- the label of a declaration is the first in its formula
 
-record Starts (keys : List Key) : Type 0 where
-  pub first : Key
-  pub inner : List Key
-  pub is : keys ≡ first ∷ inner
-
-abbrev AlwaysStarts : Temporal → Type 0
-AlwaysStarts f = is_always f ≡ true → (context : List SortId) → Starts (keys_of f context)
-
-none_starts : {keys : List Key} {b : Bool} → b ≡ false → b ≡ true → Starts keys
-none_starts e h = absurd (false≢true (sym e ∙ h))
-
-always_starts : (f : Temporal) → AlwaysStarts f
-always_starts = by_cases AlwaysStarts record {
-  at_true = λ h c. none_starts (tf.fold-True Bool is_always_step) h;
-  at_false = λ h c. none_starts (tf.fold-False Bool is_always_step) h;
-  at_atom = λ s ts h c. none_starts (tf.fold-Atom Bool is_always_step s ts) h;
-  at_same = λ a b h c. none_starts (tf.fold-Same Bool is_always_step a b) h;
-  at_not = λ f ih h c. none_starts (tf.fold-Not Bool is_always_step f) h;
-  at_and = λ fs each h c. none_starts (tf.fold-And Bool is_always_step fs) h;
-  at_or = λ fs each h c. none_starts (tf.fold-Or Bool is_always_step fs) h;
-  at_implies = λ f g ihf ihg h c. none_starts (tf.fold-Implies Bool is_always_step f g) h;
-  at_iff = λ f g ihf ihg h c. none_starts (tf.fold-Iff Bool is_always_step f g) h;
-  at_all = λ s f ih h c. none_starts (tf.fold-All Bool is_always_step s f) h;
-  at_any = λ s f ih h c. none_starts (tf.fold-Any Bool is_always_step s f) h;
-  at_always = λ f ih h c. record { first = key_of c (plain f); inner = keys_of f c; is = keys-Always f c };
-  at_eventually = λ f ih h c. none_starts (tf.fold-Eventually Bool is_always_step f) h;
-}
-
 -- a declaration whose own label is in the table
 record IsOwn (table : List Key) (l : LabelDecl) : Type 0 where
   pub inner : List Key
@@ -127,7 +93,7 @@ record IsOwn (table : List Key) (l : LabelDecl) : Type 0 where
 is_own : (table : List Key) (l : LabelDecl) → is_always l.formula ≡ true → Each (IsIn table) (keys_of l.formula (reverse l.params)) → IsOwn table l
 is_own table l h each =
     let s = always_starts l.formula h (reverse l.params) in
-    let e : own_key l ≡ s.first = ap (λ keys. get_or keys 0 no_key) s.is in
+    let e : own_key l ≡ s.own = ap (λ keys. get_or keys 0 no_key) s.is in
     let there = subst (Each (IsIn table)) s.is each in
     record { inner = s.inner; is = s.is ∙ ap (λ key. key ∷ s.inner) (sym e); there = subst (IsIn table) (sym e) there.0 }
 
@@ -185,7 +151,7 @@ label_by_table p fits k = go (ltb k (length table)) refl where
   distinct = distinct_behind key_eq key_decides [] (keys_of_labels p.labels ++ (keys_of_witnesses p.witnesses ++ keys_of p.property [])) tt
 
   own : Each (IsOwn table) p.labels
-  own = each_own p table p.labels (fit p fits).labels (each_in p).labels
+  own = each_own p table p.labels (tests p fits).labels (each_in p).labels
 
   row : Key → Label
   row = label_row table (map own_key p.labels)

@@ -1,14 +1,14 @@
 //! Texts of systems, formulas and symbols.
-ghost use Rattle.std.specs.Prelude.{◌≡◌, ◌++◌, true, List, codes, IfOk, OnOk, IsTrue};
+ghost use Rattle.std.specs.Prelude.{◌≡◌, ◌++◌, true, List, codes, IfOk, OnOk};
 ghost use Rattle.lv_tree.specs.declared.tree.Tree.{Tree};
-ghost use Rattle.lv_tree.specs.Spelling.{fits_in, all_fit_in};
 ghost use Rattle.lv_tree.specs.Writing.{written};
 ghost use Rattle.lv_labels.specs.Table.{table_labels};
 ghost use Rattle.lv_grammar.specs.Words.{symbol_word};
 ghost use Rattle.lv_grammar.specs.Spelling.{SpellsSystem, Spells};
 ghost use Rattle.lv_grammar.specs.ShownFormulas.{shown_formula};
-ghost use Rattle.lv_grammar.specs.HaveWords.{invariants_have_words};
+ghost use Rattle.lv_grammar.specs.HaveWords.{has_words, invariants_have_words};
 ghost use Rattle.lv_grammar.specs.ShownSystems.{shown_items};
+ghost use Rattle.lv_grammar.specs.Lifted.{lifted};
 ghost use Rattle.lv_grammar.specs.Layout.{in_lines, shown_text};
 
 use crate::formulas::formula;
@@ -17,24 +17,21 @@ use crate::words::{Words, symbol_word};
 use lv_formula::{Formula, Memory, Sym};
 use lv_labels::{LabelTable, labels_of};
 use lv_system::System;
-use lv_tree::{List, Text, Tree, write_tree};
+use lv_tree::{List, Text, Tree, write_line};
 use std::alloc::Global;
 
 /// The tree on one line, with this crate's error.
 fn line(alloc: Global, tree: &Tree) -> Result<List<u8>, Memory>
-    requires { IsTrue (fits_in 64 tree.now) }
     ensures { IfOk result (λ bytes. bytes ≡ written tree.now) }
 {
-    match write_tree(alloc, tree) {
+    match write_line(alloc, tree) {
         Ok(line) => Ok(line),
         Err(_) => Err(Memory),
     }
 }
 
 /// Adds the lines of the trees, each behind a newline and two spaces.
-#[tactic(auto, using(lv_grammar::proofs::LayoutLaw::next_fits))]
 fn push_lines(alloc: Global, text: &mut Vec<u8>, trees: &[Tree]) -> Result<(), Memory>
-    requires { IsTrue (all_fit_in 64 trees.now) }
     ensures { OnOk result (text.new.items ≡ text.old.items ++ in_lines trees.now) }
 {
     for tree in trees {
@@ -51,7 +48,6 @@ fn push_lines(alloc: Global, text: &mut Vec<u8>, trees: &[Tree]) -> Result<(), M
 ///
 /// The caller sees to it that each symbol of the invariants has a word. That is so of every system that
 /// some text spells.
-
 pub fn show(alloc: Global, system: &System) -> Result<List<u8>, Memory>
     requires words { invariants_have_words system.now system.now.invariants ≡ true }
     ensures text { IfOk result (λ bytes. bytes ≡ shown_text system.now) }
@@ -76,8 +72,8 @@ pub fn show(alloc: Global, system: &System) -> Result<List<u8>, Memory>
 /// A formula of the system on one line. It stands in the scope of `context` variables, of which the
 /// outermost is shown as `X0`. The only error is want of memory.
 ///
-/// The caller sees to it that the table is the system's, that each symbol and sort of the formula has a
-/// word, and that lists in the formula nest at most 64 deep.
+/// The caller sees to it that the table is the system's, and that each symbol and sort of the formula has
+/// a word. However deep lists nest in the formula, the line is written.
 pub fn show_formula(
     alloc: Global,
     f: &Formula,
@@ -86,7 +82,7 @@ pub fn show_formula(
     context: u32,
 ) -> Result<List<u8>, Memory>
     requires table { table.now.labels ≡ table_labels system.now }
-    requires written { IsTrue (fits_in 64 (shown_formula system.now f.now context)) }
+    requires words { has_words system.now (lifted f.now) ≡ true }
     ensures { IfOk result (λ bytes. bytes ≡ written (shown_formula system.now f.now context)) }
 {
     let words = Words {

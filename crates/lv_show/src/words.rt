@@ -6,7 +6,7 @@ ghost use Rattle.lv_show.specs.Tables.{IsTable, named_by, declaration_in};
 use itoa::Buffer;
 use lv_formula::{Memory, SortId, Sym};
 use lv_labels::Label;
-use lv_system::{Fair, LabelDecl, Parts, Sort, Symbol, WitnessDecl};
+use lv_system::{HasName, Parts};
 use lv_tree::{List, Text};
 use std::alloc::Global;
 
@@ -17,57 +17,9 @@ pub(crate) struct Words<'a> {
     pub(crate) labels: &'a [Label],
 }
 
-/// An item of a system that has a name.
-trait Named {
-    ghost text: { Self → List ℕ };
-
-    fn name(&self) -> &[u8]
-        ensures { result.now ≡ text self.now };
-}
-
-impl Named for Sort {
-    ghost text = { λ it. it.name };
-
-    fn name(&self) -> &[u8] {
-        self.name.as_slice()
-    }
-}
-
-impl Named for Symbol {
-    ghost text = { λ it. it.name };
-
-    fn name(&self) -> &[u8] {
-        self.name.as_slice()
-    }
-}
-
-impl Named for Fair {
-    ghost text = { λ it. it.name };
-
-    fn name(&self) -> &[u8] {
-        self.name.as_slice()
-    }
-}
-
-impl Named for LabelDecl {
-    ghost text = { λ it. it.name };
-
-    fn name(&self) -> &[u8] {
-        self.name.as_slice()
-    }
-}
-
-impl Named for WitnessDecl {
-    ghost text = { λ it. it.name };
-
-    fn name(&self) -> &[u8] {
-        self.name.as_slice()
-    }
-}
-
 /// The name of the item with the number, no bytes where there is none.
 #[tactic(auto, using(crate::proofs::Elements::name_there, crate::proofs::Elements::name_past))]
-fn name_at<T: Named>(items: &[T], number: u32) -> &[u8]
+fn name_at<T: HasName>(items: &[T], number: u32) -> &[u8]
     ensures { result.now ≡ get_or (map (λ x. T.text x) items.now) number [] }
 {
     let place = number as usize;

@@ -18,7 +18,7 @@ use Rattle.lv_system.proofs.LookupLaws.{own_relation_told, own_constant_told, wi
 use Rattle.lv_system.proofs.NameLaws.{names_parted}
 use Rattle.lv_grammar.specs.Grammar.{IsWord}
 use Rattle.lv_grammar.specs.Words as Words
-use Rattle.lv_grammar.specs.Words.{Variable, symbol_word, is_spoken}
+use Rattle.lv_grammar.specs.Words.{Variable, symbol_word}
 use Rattle.lv_syntax.specs.declared.draft.Draft.{Draft}
 use Rattle.lv_syntax.specs.declared.draft.Named.TheVariants as N
 use Rattle.lv_syntax.specs.declared.draft.Role.{Role}

@@ -14,7 +14,7 @@ use Rattle.lv_system.specs.Lookups.{invariant_relation, invariant_constant}
 use Rattle.lv_labels.specs.declared.key.Key.{Key}
 use Rattle.lv_labels.specs.Labels.{labels_of}
 use Rattle.lv_grammar.specs.Words as Words
-use Rattle.lv_grammar.specs.Words.{symbol_word, is_spoken, name_or_number, label_word, justice_name}
+use Rattle.lv_grammar.specs.Words.{symbol_word, is_spoken, name_or_number, justice_name}
 use Rattle.lv_grammar.specs.LabelLimits.{spoken_vocabulary}
 use Rattle.lv_syntax.specs.declared.draft.Draft.{Draft}
 use Rattle.lv_syntax.specs.declared.draft.Named.{Named}

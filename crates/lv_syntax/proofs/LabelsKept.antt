@@ -5,13 +5,11 @@ use Rattle.std.proofs.lemmas.List.{map-append, append_assoc, append-nil}
 use Rattle.lv_tree.specs.declared.tree.Tree.{Tree}
 use Rattle.lv_formula.specs.declared.symbols.SortId.{SortId}
 use Rattle.lv_formula.specs.declared.temporal.Temporal.{Temporal}
-use Rattle.lv_formula.proofs.TemporalFolds as Folds
-use Rattle.lv_formula.proofs.TemporalInduction.{Cases, by_cases}
 use Rattle.lv_system.specs.declared.parts.LabelDecl.{LabelDecl}
 use Rattle.lv_system.specs.declared.parts.WitnessDecl.{WitnessDecl}
-use Rattle.lv_system.specs.Fits.{is_always, is_always_step}
 use Rattle.lv_labels.specs.declared.key.Key.{Key}
-use Rattle.lv_labels.specs.Labels.{key_eq, key_of, plain, Labelled, labelled_step, keys_of, keys_of_labels, keys_of_witnesses, number_of}
+use Rattle.lv_labels.specs.Labels.{key_eq, keys_of, keys_of_labels, keys_of_witnesses, number_of}
+use Rattle.lv_labels.proofs.FirstLabels.{always_starts}
 use Rattle.lv_labels.specs.Once.{is_among, once_behind, each_once, place_of}
 use Rattle.lv_grammar.specs.Words.{Variable}
 use Rattle.lv_grammar.specs.LabelLimits.{are_narrow, declared_keys, all_differ}
@@ -143,31 +141,6 @@ witness_keys_both : (ws : List WitnessDecl) (w : WitnessDecl) → keys_of_witnes
 witness_keys_both [] w = append-nil (keys_of w.formula (w.sort ∷ []))
 witness_keys_both (v ∷ ws) w = ap (λ z. keys_of v.formula (v.sort ∷ []) ++ z) (witness_keys_both ws w) ∙ sym (append_assoc (keys_of v.formula (v.sort ∷ [])) (keys_of_witnesses ws) (keys_of w.formula (w.sort ∷ [])))
 
--- ---- `always` has an own label
-
-abbrev HasOwn : Temporal → Type 0
-HasOwn f = is_always f ≡ true → (context : List SortId) → (own : Key) × (inner : List Key) × (keys_of f context ≡ own ∷ inner)
-
-own_cases : Cases HasOwn
-own_cases = record {
-  at_true = λ e. let q = sym (Folds.fold-True Bool is_always_step) ∙ e in absurd cc;
-  at_false = λ e. let q = sym (Folds.fold-False Bool is_always_step) ∙ e in absurd cc;
-  at_atom = λ s ts e. let q = sym (Folds.fold-Atom Bool is_always_step s ts) ∙ e in absurd cc;
-  at_same = λ a b e. let q = sym (Folds.fold-Same Bool is_always_step a b) ∙ e in absurd cc;
-  at_not = λ f ih e. let q = sym (Folds.fold-Not Bool is_always_step f) ∙ e in absurd cc;
-  at_and = λ fs each e. let q = sym (Folds.fold-And Bool is_always_step fs) ∙ e in absurd cc;
-  at_or = λ fs each e. let q = sym (Folds.fold-Or Bool is_always_step fs) ∙ e in absurd cc;
-  at_implies = λ f g x y e. let q = sym (Folds.fold-Implies Bool is_always_step f g) ∙ e in absurd cc;
-  at_iff = λ f g x y e. let q = sym (Folds.fold-Iff Bool is_always_step f g) ∙ e in absurd cc;
-  at_all = λ s f ih e. let q = sym (Folds.fold-All Bool is_always_step s f) ∙ e in absurd cc;
-  at_any = λ s f ih e. let q = sym (Folds.fold-Any Bool is_always_step s f) ∙ e in absurd cc;
-  at_always = λ f ih e context. (key_of context (plain f), keys_of f context, ap (λ (l : Labelled). l.keys context) (Folds.fold-Always Labelled labelled_step f));
-  at_eventually = λ f ih e. let q = sym (Folds.fold-Eventually Bool is_always_step f) ∙ e in absurd cc;
-}
-
-has_own : (f : Temporal) → HasOwn f
-has_own = by_cases HasOwn own_cases
-
 -- ---- over each item
 
 -- the table, with what comes behind all that was there
@@ -188,9 +161,9 @@ label_kept d h l y w p g =
     let keys : y.f.1 ≡ each_once key_eq (keys_of_labels (d.labels ++ label ∷ []) ++ (keys_of_witnesses d.witnesses ++ property_keys d.property)) =
     table_further d (keys_of_labels d.labels) ks y.f.1 before a
     ∙ ap (each_once key_eq) (sym (label_keys_both d.labels label) ∙ sym (ap₂ (λ u v. keys_of_labels (d.labels ++ label ∷ []) ++ (keys_of_witnesses u ++ property_keys v)) w p ∙ append-nil (keys_of_labels (d.labels ++ label ∷ [])))) in
-    let own = has_own y.f.0 y.always (reverse (sorts_of y.o.params)) in
-    let there : is_among key_eq own.0 y.f.1 ≡ true = ap (is_among key_eq own.0) (a.is ∙ ap (once_behind key_eq d.keys) own.2) ∙ among_once own.0 d.keys own.1 in
-    let owned : Owned y.f.1 label = record { own = own.0; inner = own.1; is = own.2; there = there } in
+    let first = always_starts y.f.0 y.always (reverse (sorts_of y.o.params)) in
+    let there : is_among key_eq first.own y.f.1 ≡ true = ap (is_among key_eq first.own) (a.is ∙ ap (once_behind key_eq d.keys) first.is) ∙ among_once first.own d.keys first.inner in
+    let owned : Owned y.f.1 label = record { own = first.own; inner = first.inner; is = first.is; there = there } in
     let old-numbers : d.numbers ≡ numbers_in y.f.1 d.labels = g.numbers ∙ sym (numbers_still d.keys y.f.1 grows d.labels g.owned) in
     let numbers : d.numbers ++ own_number y.f.1 ks ∷ [] ≡ numbers_in y.f.1 (d.labels ++ label ∷ []) =
     ap (λ z. z ++ own_number y.f.1 ks ∷ []) old-numbers ∙ sym (map-append (λ (m : LabelDecl). own_number y.f.1 (keys_in m)) d.labels (label ∷ [])) in

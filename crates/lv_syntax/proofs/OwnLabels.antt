@@ -2,16 +2,13 @@
 use Rattle.std.proofs.Common.{◌≡◌, ℕ, zero, suc, Bool, true, false, not, ◌||◌, cond, eqb, List, [], ◌∷◌, ◌++◌, length, map, take, reverse, slice_get, Some, None, refl, sym, ap, ap₂, ◌∙◌, append_assoc}
 use Rattle.std.proofs.lemmas.Bool.{eqb-true, eq-eqb}
 use Rattle.std.proofs.lemmas.List.{append-nil}
-use Rattle.lv_formula.specs.declared.symbols.SortId.{SortId}
-use Rattle.lv_formula.specs.declared.temporal.Temporal.{Temporal}
-use Rattle.lv_formula.proofs.TemporalFolds as Folds
-use Rattle.lv_formula.proofs.TemporalInduction.{Cases, by_cases}
 use Rattle.lv_system.specs.declared.parts.Parts.{Parts}
 use Rattle.lv_system.specs.declared.parts.LabelDecl.{LabelDecl}
 use Rattle.lv_system.specs.declared.parts.WitnessDecl.{WitnessDecl}
 use Rattle.lv_system.specs.Fits.{params_fit, is_always, label_fits, labels_fit}
 use Rattle.lv_labels.specs.declared.key.Key.{Key}
-use Rattle.lv_labels.specs.Labels.{Labelled, labelled_step, key_eq, key_of, plain, keys_of, keys_of_labels, keys_of_witnesses, labels_of, number_of}
+use Rattle.lv_labels.specs.Labels.{key_eq, keys_of, keys_of_labels, keys_of_witnesses, labels_of, number_of}
+use Rattle.lv_labels.proofs.FirstLabels.{always_starts}
 use Rattle.lv_labels.specs.Once.{is_among, once_behind}
 use Rattle.lv_grammar.specs.LabelLimits.{declared_keys, all_differ}
 use Rattle.lv_grammar.specs.Words.{has_number, declared_name}
@@ -21,39 +18,6 @@ use Rattle.lv_syntax.proofs.FormulaAgain.{not_not}
 use Rattle.lv_syntax.proofs.KeyTest.{key_self}
 use Rattle.lv_syntax.proofs.TableLaws.{once_both, Grown, grown_on, once_grows, among_both, among_last, among_once, same_number}
 use Rattle.lv_syntax.proofs.Stages.{table}
-
--- ---- the label of `always`
-
-pub record FirstKey (f : Temporal) (context : List SortId) : Type 0 where
-  pub own : Key
-  pub inner : List Key
-  pub is : keys_of f context ≡ own ∷ inner
-
-abbrev HasFirst : Temporal → Type 0
-HasFirst f = is_always f ≡ true → (context : List SortId) → FirstKey f context
-
-never : (f : Temporal) (context : List SortId) → false ≡ true → FirstKey f context
-never f context e = absurd cc
-
-first_cases : Cases HasFirst
-first_cases = record {
-  at_true = λ e context. never _ context (simp Folds.folds at e);
-  at_false = λ e context. never _ context (simp Folds.folds at e);
-  at_atom = λ r ts e context. never _ context (simp Folds.folds at e);
-  at_same = λ a b e context. never _ context (simp Folds.folds at e);
-  at_not = λ f ih e context. never _ context (simp Folds.folds at e);
-  at_and = λ fs each e context. never _ context (simp Folds.folds at e);
-  at_or = λ fs each e context. never _ context (simp Folds.folds at e);
-  at_implies = λ f g ihf ihg e context. never _ context (simp Folds.folds at e);
-  at_iff = λ f g ihf ihg e context. never _ context (simp Folds.folds at e);
-  at_all = λ s f ih e context. never _ context (simp Folds.folds at e);
-  at_any = λ s f ih e context. never _ context (simp Folds.folds at e);
-  at_always = λ f ih e context. record { own = key_of context (plain f); inner = keys_of f context; is = ap (λ (l : Labelled). l.keys context) (Folds.fold-Always Labelled labelled_step f) };
-  at_eventually = λ f ih e context. never _ context (simp Folds.folds at e);
-}
-
-pub first_key : (f : Temporal) → is_always f ≡ true → (context : List SortId) → FirstKey f context
-first_key = by_cases HasFirst first_cases
 
 -- ---- declarations whose own labels are in a table
 
@@ -84,7 +48,7 @@ owned_from p t [] fit among = tt
 owned_from p t (l ∷ ls) fit among =
     let one = and_first (label_fits p l) _ fit in
     let inner = and_second (params_fit (length p.sorts) l.params) _ one in
-    let first = first_key l.formula (and_first (is_always l.formula) _ inner) (reverse l.params) in
+    let first = always_starts l.formula (and_first (is_always l.formula) _ inner) (reverse l.params) in
     let here : is_among key_eq first.own (keys_in l) ≡ true = ap (is_among key_eq first.own) first.is ∙ among_head first.own first.inner in
     let there : is_among key_eq first.own (keys_of_labels (l ∷ ls)) ≡ true = among_both first.own (keys_in l) (keys_of_labels ls) ∙ or_left (is_among key_eq first.own (keys_in l)) _ here in (
       record { own = first.own; inner = first.inner; keys = first.is; among = among first.own there },

@@ -13,7 +13,7 @@ use crate::fault::{Kind, ReadText};
 use crate::labelled::{read_label, read_property, read_witness};
 use crate::trees::{HeadedList, head, refusal, refuse_if};
 use crate::updates::read_action;
-use crate::words::same_bytes;
+use lv_system::same_bytes;
 use lv_tree::Tree;
 use std::alloc::Global;
 

@@ -1,5 +1,5 @@
 //! What names name, and new names and variables.
-ghost use Rattle.std.specs.Prelude.{◌≡◌, ◌<◌, ◌^◌, length, List, ℕ, IfSome};
+ghost use Rattle.std.specs.Prelude.{◌≡◌, ◌<◌, ◌^◌, length, IfSome};
 ghost use Rattle.lv_syntax.specs.Given.{Gives};
 ghost use Rattle.lv_syntax.specs.Names.{position_of, named, new_name, new_variable, sort_in};
 ghost use Rattle.lv_syntax.specs.Scopes.{scope_seen};
@@ -8,74 +8,10 @@ use crate::draft::{Draft, Named};
 use crate::fault::{Kind, ReadText};
 use crate::scope::Scope;
 use crate::trees::{refusal, refuse_if, word};
-use crate::words::{Family, family_in, same_bytes};
+use crate::words::{Family, family_in};
 use lv_formula::SortId;
-use lv_system::{Action, Fair, Invariant, LabelDecl, Sort, Symbol, WitnessDecl};
+use lv_system::{HasName, same_bytes};
 use lv_tree::Tree;
-
-/// What has a name.
-trait HasName {
-    ghost text: { Self → List ℕ };
-
-    fn name(&self) -> &[u8]
-        ensures { result.now ≡ text self.now };
-}
-
-impl HasName for Sort {
-    ghost text = { λ x. x.name };
-
-    fn name(&self) -> &[u8] {
-        self.name.as_slice()
-    }
-}
-
-impl HasName for Symbol {
-    ghost text = { λ x. x.name };
-
-    fn name(&self) -> &[u8] {
-        self.name.as_slice()
-    }
-}
-
-impl HasName for Action {
-    ghost text = { λ x. x.name };
-
-    fn name(&self) -> &[u8] {
-        self.name.as_slice()
-    }
-}
-
-impl HasName for Fair {
-    ghost text = { λ x. x.name };
-
-    fn name(&self) -> &[u8] {
-        self.name.as_slice()
-    }
-}
-
-impl HasName for LabelDecl {
-    ghost text = { λ x. x.name };
-
-    fn name(&self) -> &[u8] {
-        self.name.as_slice()
-    }
-}
-
-impl HasName for WitnessDecl {
-    ghost text = { λ x. x.name };
-
-    fn name(&self) -> &[u8] {
-        self.name.as_slice()
-    }
-}
-
-impl HasName for Invariant {
-    ghost text = { λ x. x.name };
-
-    fn name(&self) -> &[u8] {
-        self.name.as_slice()
-    }
-}
 
 /// The number of the first item with this name.
 fn position<T: HasName>(items: &[T], name: &[u8]) -> Option<u32>

@@ -11,8 +11,8 @@ use crate::growing::Growing;
 use crate::names::{new_name, new_variable, sort};
 use crate::scope::{Parameter, Scope};
 use crate::trees::{finish, list, next, place, refusal, refuse_if, word};
-use crate::words::same_bytes;
 use lv_formula::{List, SortId, Text};
+use lv_system::same_bytes;
 use lv_tree::Tree;
 use std::alloc::Global;
 

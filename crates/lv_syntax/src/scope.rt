@@ -2,8 +2,8 @@
 ghost use Rattle.std.specs.Prelude.{◌≡◌, IfOk};
 ghost use Rattle.lv_syntax.specs.Scopes.{found_in, found_within, scope_seen};
 
-use crate::words::same_bytes;
 use lv_formula::{Memory, SortId};
+use lv_system::same_bytes;
 
 /// A variable with its sort, and the place where it is declared.
 #[derive(Clone, Copy, Debug, Drop)]

@@ -9,9 +9,10 @@ use crate::growing::Growing;
 use crate::items::read_items;
 use crate::parameters::text_of;
 use crate::trees::{head, next, refusal, refuse_if, word};
-use crate::words::{Family, family_in, same_bytes};
+use crate::words::{Family, family_in};
 use lv_formula::Text;
-use lv_system::Parts;
+use lv_labels::KnownKeys;
+use lv_system::{Parts, same_bytes};
 use lv_tree::Tree;
 use std::alloc::Global;
 
@@ -32,7 +33,7 @@ fn without_items(alloc: Global, name: Text) -> Draft
         witnesses: Growing::new(alloc),
         property: None,
         invariants: Growing::new(alloc),
-        keys: Growing::new(alloc),
+        keys: KnownKeys::new(alloc),
     }
 }
 

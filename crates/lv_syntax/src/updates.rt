@@ -19,9 +19,9 @@ use crate::states::lone;
 use crate::symbols::Setting;
 use crate::terms::term_in_sort;
 use crate::trees::{HeadedList, finish, head, list, next, place, refusal, refuse_if, word};
-use crate::words::{Family, family_in, same_bytes};
+use crate::words::{Family, family_in};
 use lv_formula::{Formula, List, SortId};
-use lv_system::{Action, ActionUpdate, Shape};
+use lv_system::{Action, ActionUpdate, Shape, same_bytes};
 use lv_tree::Tree;
 use std::alloc::Global;
 

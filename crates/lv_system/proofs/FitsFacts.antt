@@ -171,33 +171,64 @@ each_witness p k (w ∷ ws) h (suc i) n e lt =
 each_shape : (sorts : ℕ) (ss : List Symbol) → shapes_fit sorts ss ≡ true → (n : ℕ) → n < length ss → shape_fits sorts (get_or ss n no_symbol).shape ≡ true
 each_shape sorts ss = at_each (λ s. shape_fits sorts s.shape) (shapes_fit sorts) (λ x xs. refl) no_symbol ss
 
+-- the tests of which the test of parts is made
+pub record Tests (p : Parts) : Type 0 where
+  pub counts : counts_fit p ≡ true
+  pub names : names_fit p ≡ true
+  pub shapes : shapes_fit (length p.sorts) p.symbols ≡ true
+  pub axioms : axioms_fit p ≡ true
+  pub inits : inits_fit p ≡ true
+  pub actions : actions_fit p p.actions ≡ true
+  pub fairs : fairs_fit p p.fairs ≡ true
+  pub labels : labels_fit p p.labels ≡ true
+  pub witnesses : witnesses_fit p 0 p.witnesses ≡ true
+  pub property : property_fits p ≡ true
+  pub invariants : invariants_fit p p.invariants ≡ true
+
+pub tests : (p : Parts) → fits_parts p ≡ true → Tests p
+tests p h =
+    let counts = and_parts (counts_fit p) _ h in
+    let names = and_parts (names_fit p) _ counts.1 in
+    let shapes = and_parts (shapes_fit (length p.sorts) p.symbols) _ names.1 in
+    let axioms = and_parts (axioms_fit p) _ shapes.1 in
+    let inits = and_parts (inits_fit p) _ axioms.1 in
+    let actions = and_parts (actions_fit p p.actions) _ inits.1 in
+    let fairs = and_parts (fairs_fit p p.fairs) _ actions.1 in
+    let labels = and_parts (labels_fit p p.labels) _ fairs.1 in
+    let witnesses = and_parts (witnesses_fit p 0 p.witnesses) _ labels.1 in
+    let property = and_parts (property_fits p) (invariants_fit p p.invariants) witnesses.1 in
+    record {
+      counts = counts.0;
+      names = names.0;
+      shapes = shapes.0;
+      axioms = axioms.0;
+      inits = inits.0;
+      actions = actions.0;
+      fairs = fairs.0;
+      labels = labels.0;
+      witnesses = witnesses.0;
+      property = property.0;
+      invariants = property.1;
+    }
+
 -- parts that fit
 pub fitting : (p : Parts) → fits_parts p ≡ true → Fitting p
 fitting p h =
-    let a = and_parts (counts_fit p) _ h in
-    let b = and_parts (names_fit p) _ a.1 in
-    let c = and_parts (shapes_fit (length p.sorts) p.symbols) _ b.1 in
-    let d = and_parts (axioms_fit p) _ c.1 in
-    let e = and_parts (inits_fit p) _ d.1 in
-    let f = and_parts (actions_fit p p.actions) _ e.1 in
-    let g = and_parts (fairs_fit p p.fairs) _ f.1 in
-    let i = and_parts (labels_fit p p.labels) _ g.1 in
-    let j = and_parts (witnesses_fit p 0 p.witnesses) _ i.1 in
-    let k = and_parts (property_fits p) (invariants_fit p p.invariants) j.1 in
-    let l = and_parts (is_small_temporal p.property) (temporal_fits_in (own_vocabulary p) [] p.property) k.0 in
+    let t = tests p h in
+    let path = and_parts (is_small_temporal p.property) (temporal_fits_in (own_vocabulary p) [] p.property) t.property in
     record {
-      few = few_items p a.0;
-      names = b.0;
-      shapes = each_shape (length p.sorts) p.symbols c.0;
-      axioms = all_fit (fixed_vocabulary p) p.axioms d.0;
-      inits = all_fit (own_vocabulary p) p.inits e.0;
-      actions = λ n lt. fit_action p (action_at p n) (at_each (action_fits p) (actions_fit p) (λ x xs. refl) no_action p.actions f.0 n lt);
-      fairs = λ n lt. fit_fair p (fair_at p n) (at_each (fair_fits p) (fairs_fit p) (λ x xs. refl) no_fair p.fairs g.0 n lt);
-      labels = λ n lt. fit_label p (get_or p.labels n no_label) (at_each (label_fits p) (labels_fit p) (λ x xs. refl) no_label p.labels i.0 n lt);
-      witnesses = λ n lt. fit_witness p n (get_or p.witnesses n no_witness) (each_witness p 0 p.witnesses j.0 n n (omega arith) lt);
-      property = l.1;
-      small = l.0;
-      invariants = k.1;
+      few = few_items p t.counts;
+      names = t.names;
+      shapes = each_shape (length p.sorts) p.symbols t.shapes;
+      axioms = all_fit (fixed_vocabulary p) p.axioms t.axioms;
+      inits = all_fit (own_vocabulary p) p.inits t.inits;
+      actions = λ n lt. fit_action p (action_at p n) (at_each (action_fits p) (actions_fit p) (λ x xs. refl) no_action p.actions t.actions n lt);
+      fairs = λ n lt. fit_fair p (fair_at p n) (at_each (fair_fits p) (fairs_fit p) (λ x xs. refl) no_fair p.fairs t.fairs n lt);
+      labels = λ n lt. fit_label p (get_or p.labels n no_label) (at_each (label_fits p) (labels_fit p) (λ x xs. refl) no_label p.labels t.labels n lt);
+      witnesses = λ n lt. fit_witness p n (get_or p.witnesses n no_witness) (each_witness p 0 p.witnesses t.witnesses n n (omega arith) lt);
+      property = path.1;
+      small = path.0;
+      invariants = t.invariants;
     }
 
 -- An update of a relation that fits: the symbol is a relation that isn't fixed, and the body stands in the parameters

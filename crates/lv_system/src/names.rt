@@ -1,120 +1,11 @@
 //! Names: their form, and that no two of a system are the same.
-ghost use Rattle.std.specs.Prelude.{◌≡◌, codes, ℕ, List, map, cond, eqb};
+ghost use Rattle.std.specs.Prelude.{◌≡◌, map, cond, eqb};
 ghost use Rattle.lv_formula.specs.Measures.{at_most_u64};
-ghost use Rattle.lv_system.specs.Names.{same_text, names_item, names_part, names_connective, names_operator, names_run, is_reserved, is_name_byte, are_name_bytes, begins_small, is_name, are_names, occurrences, each_stands_once, names_of, names_fit};
+ghost use Rattle.lv_system.specs.Names.{same_text, is_name, are_names, occurrences, each_stands_once, names_of, names_fit};
 
-use crate::parts::{Action, Fair, Invariant, LabelDecl, Parts, Sort, Symbol, WitnessDecl};
-
-fn same_bytes(a: &[u8], b: &[u8]) -> bool
-    ensures { result ≡ same_text a.now b.now }
-{
-    a == b
-}
-
-#[tactic(auto, unfolding(crate::specs::Names::names_item))]
-fn is_item_word(text: &[u8]) -> bool
-    ensures { result ≡ names_item text.now }
-{
-    same_bytes(text, b"sort")
-        || same_bytes(text, b"relation")
-        || same_bytes(text, b"constant")
-        || same_bytes(text, b"function")
-        || same_bytes(text, b"axiom")
-        || same_bytes(text, b"init")
-        || same_bytes(text, b"action")
-        || same_bytes(text, b"fair")
-}
-
-#[tactic(auto, unfolding(crate::specs::Names::names_part))]
-fn is_part_word(text: &[u8]) -> bool
-    ensures { result ≡ names_part text.now }
-{
-    same_bytes(text, b"system")
-        || same_bytes(text, b"label")
-        || same_bytes(text, b"witness")
-        || same_bytes(text, b"property")
-        || same_bytes(text, b"invariant")
-        || same_bytes(text, b"finite")
-        || same_bytes(text, b"fixed")
-        || same_bytes(text, b"guard")
-}
-
-#[tactic(auto, unfolding(crate::specs::Names::names_connective))]
-fn is_connective(text: &[u8]) -> bool
-    ensures { result ≡ names_connective text.now }
-{
-    same_bytes(text, b"true")
-        || same_bytes(text, b"false")
-        || same_bytes(text, b"not")
-        || same_bytes(text, b"and")
-        || same_bytes(text, b"or")
-        || same_bytes(text, b"implies")
-        || same_bytes(text, b"iff")
-        || same_bytes(text, b"set")
-}
-
-#[tactic(auto, unfolding(crate::specs::Names::names_operator))]
-fn is_operator(text: &[u8]) -> bool
-    ensures { result ≡ names_operator text.now }
-{
-    same_bytes(text, b"all")
-        || same_bytes(text, b"some")
-        || same_bytes(text, b"always")
-        || same_bytes(text, b"eventually")
-        || same_bytes(text, b"next")
-        || same_bytes(text, b"until")
-        || same_bytes(text, b"frozen")
-        || same_bytes(text, b"saved")
-}
-
-#[tactic(auto, unfolding(crate::specs::Names::names_run))]
-fn is_run_word(text: &[u8]) -> bool
-    ensures { result ≡ names_run text.now }
-{
-    same_bytes(text, b"structure")
-        || same_bytes(text, b"size")
-        || same_bytes(text, b"lasso")
-        || same_bytes(text, b"stem")
-        || same_bytes(text, b"loop")
-        || same_bytes(text, b"check")
-        || same_bytes(text, b"replay")
-}
-
-fn is_reserved_word(text: &[u8]) -> bool
-    ensures { result ≡ is_reserved text.now }
-{
-    is_item_word(text)
-        || is_part_word(text)
-        || is_connective(text)
-        || is_operator(text)
-        || is_run_word(text)
-}
-
-fn stands_in_names(byte: u8) -> bool
-    ensures { result ≡ is_name_byte byte }
-{
-    byte.is_ascii_alphanumeric() || byte == b'_' || byte == b'-'
-}
-
-fn all_stand_in_names(text: &[u8]) -> bool
-    ensures { result ≡ are_name_bytes text.now }
-{
-    for byte in text {
-        if !stands_in_names(*byte) {
-            return false;
-        }
-    }
-    true
-}
-
-fn begins_with_small_letter(text: &[u8]) -> bool
-    ensures { result ≡ begins_small text.now }
-{
-    match text {
-        [first, ..] => first.is_ascii_lowercase(),
-        [] => false,
-    }
-}
+use crate::named::HasName;
+use crate::parts::Parts;
+use crate::words::{all_stand_in_names, begins_with_small_letter, is_reserved_word, same_bytes};
 
 /// Whether the bytes are a name: a small letter, then letters, digits, `_` and `-`, at most 48 bytes in
 /// all, and no reserved word.
@@ -127,72 +18,8 @@ fn is_a_name(text: &[u8]) -> bool
         && !is_reserved_word(text)
 }
 
-/// An item of a system that has a name.
-trait Named {
-    ghost text: { Self → List ℕ };
-
-    fn name(&self) -> &[u8]
-        ensures { result.now ≡ text self.now };
-}
-
-impl Named for Sort {
-    ghost text = { λ it. it.name };
-
-    fn name(&self) -> &[u8] {
-        self.name.as_slice()
-    }
-}
-
-impl Named for Symbol {
-    ghost text = { λ it. it.name };
-
-    fn name(&self) -> &[u8] {
-        self.name.as_slice()
-    }
-}
-
-impl Named for Action {
-    ghost text = { λ it. it.name };
-
-    fn name(&self) -> &[u8] {
-        self.name.as_slice()
-    }
-}
-
-impl Named for Fair {
-    ghost text = { λ it. it.name };
-
-    fn name(&self) -> &[u8] {
-        self.name.as_slice()
-    }
-}
-
-impl Named for LabelDecl {
-    ghost text = { λ it. it.name };
-
-    fn name(&self) -> &[u8] {
-        self.name.as_slice()
-    }
-}
-
-impl Named for WitnessDecl {
-    ghost text = { λ it. it.name };
-
-    fn name(&self) -> &[u8] {
-        self.name.as_slice()
-    }
-}
-
-impl Named for Invariant {
-    ghost text = { λ it. it.name };
-
-    fn name(&self) -> &[u8] {
-        self.name.as_slice()
-    }
-}
-
 /// Whether each item's name has the form of one.
-fn have_names<T: Named>(items: &[T]) -> bool
+fn have_names<T: HasName>(items: &[T]) -> bool
     ensures { result ≡ are_names (map T.text items.now) }
 {
     for item in items {
@@ -211,7 +38,7 @@ fn one_if_same(a: &[u8], b: &[u8]) -> u64
 }
 
 /// How many of the items have the name, ending at the greatest `u64`.
-fn count_in<T: Named>(name: &[u8], items: &[T]) -> u64
+fn count_in<T: HasName>(name: &[u8], items: &[T]) -> u64
     ensures { result ≡ at_most_u64 (occurrences name.now (map T.text items.now)) }
 {
     let mut sum = 0u64;
@@ -244,7 +71,7 @@ fn stands_once(name: &[u8], parts: &Parts) -> bool
 }
 
 /// Whether each item's name stands once among the names of the system.
-fn each_once<T: Named>(items: &[T], parts: &Parts) -> bool
+fn each_once<T: HasName>(items: &[T], parts: &Parts) -> bool
     ensures { result ≡ each_stands_once (map T.text items.now) (names_of parts.now) }
 {
     for item in items {

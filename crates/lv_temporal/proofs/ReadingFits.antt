@@ -28,7 +28,8 @@ use Rattle.lv_labels.specs.Labels.{key_of, keys_each, keys_of, label_atom, label
 use Rattle.lv_labels.specs.Problem.{Condition, choice_at, choice_of, justice_at, label_at, label_condition, label_justice, no_condition, problem_of, shapes_from, state_vocabulary, tuple_variables}
 use Rattle.lv_labels.specs.Renaming.{free_variables}
 use Rattle.lv_temporal.specs.TrueLabels.{key_at, witness_at}
-use Rattle.lv_temporal.proofs.Fits.{Extends, atom_more, binder_more, fits_below, fits_plain, same_more}
+use Rattle.lv_labels.proofs.InContext.{fits_below}
+use Rattle.lv_temporal.proofs.Fits.{Extends, atom_more, binder_more, fits_plain, same_more}
 use Rattle.lv_temporal.proofs.FitsMore.{fits_more}
 use Rattle.lv_labels.proofs.Keys.{sort_at}
 use Rattle.lv_labels.proofs.LabelsAt.{keys, read-Always, read-Eventually, read_with, reads}

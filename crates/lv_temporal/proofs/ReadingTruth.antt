@@ -28,7 +28,8 @@ use Rattle.lv_labels.specs.Positions.{holds_at}
 use Rattle.lv_temporal.specs.TrueLabels.{key_at, position_of, true_table}
 use Rattle.lv_formula.proofs.Below.{all_below_same, any_below_same}
 use Rattle.lv_labels.proofs.Later.{later_same}
-use Rattle.lv_temporal.proofs.Fits.{fits_below, fits_plain}
+use Rattle.lv_labels.proofs.InContext.{fits_below}
+use Rattle.lv_temporal.proofs.Fits.{fits_plain}
 use Rattle.lv_labels.proofs.HoldsAt.{held, holds-Always}
 use Rattle.lv_labels.proofs.Keys.{sort_at}
 use Rattle.lv_labels.proofs.LabelsAt.{keys, reads, read_with, read-Always, read-Eventually}

@@ -25,7 +25,8 @@ use Rattle.lv_labels.specs.Labels.{key_of, keys_each, keys_of, labelled, labels_
 use Rattle.lv_labels.specs.Problem.{label_condition, problem_of}
 use Rattle.lv_labels.specs.Renaming.{free_variables}
 use Rattle.lv_temporal.specs.TrueLabels.{key_at, no_key}
-use Rattle.lv_temporal.proofs.Fits.{fits_below, fits_plain}
+use Rattle.lv_labels.proofs.InContext.{fits_below}
+use Rattle.lv_temporal.proofs.Fits.{fits_plain}
 use Rattle.lv_labels.proofs.LabelsAt.{keys}
 use Rattle.lv_labels.proofs.Occurrences.{free_each}
 use Rattle.lv_labels.proofs.Once.{each_at, each_both, each_from, each_weaker}

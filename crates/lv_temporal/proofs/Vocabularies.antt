@@ -12,6 +12,7 @@ use Rattle.lv_system.specs.declared.parts.Parts.{Parts}
 use Rattle.lv_system.specs.declared.parts.Symbol.{Symbol}
 use Rattle.lv_system.specs.declared.parts.WitnessDecl.{WitnessDecl}
 use Rattle.lv_system.specs.Vocabularies.{relation_sorts, constant_sort, relation_if, constant_if, relations_from, constants_from, any_symbol, witnesses_from, own_vocabulary, witness_vocabulary}
+use Rattle.lv_temporal.proofs.Words.{constant-stop}
 use Rattle.lv_temporal.specs.TrueLabels.{no_witness, witness_at}
 use Rattle.lv_temporal.proofs.Fits.{Extends}
 use Rattle.lv_temporal.proofs.ReadingTruth.{HasNoLabel}
@@ -54,15 +55,6 @@ pub witness_vocabulary_plain : (p : Parts) (n : ℕ) → HasNoLabel (witness_voc
 witness_vocabulary_plain p n k = no_own_relation (Label k) (label_apart k) 0 p.symbols
 
 -- ---- constants of two lists
-
--- a constant of the first list is found in both
-pub constant_first : (xs ys : List ConShape) (c : Sym) (s : SortId) → constant_in xs c ≡ Some s → constant_in (xs ++ ys) c ≡ Some s
-constant_first [] ys c s h = cc
-constant_first (x ∷ xs) ys c s h = go (sym_eq x.sym c) h (constant_first xs ys c s)
-  where
-    go : (b : Bool) → cond b (Some x.sort) (constant_in xs c) ≡ Some s → (constant_in xs c ≡ Some s → constant_in (xs ++ ys) c ≡ Some s) → cond b (Some x.sort) (constant_in (xs ++ ys) c) ≡ Some s
-    go true e ih = e
-    go false e ih = ih e
 
 -- a constant of both is found in the first, or else in the second
 pub constant_split : (xs ys : List ConShape) (c : Sym) (s : SortId) → constant_in (xs ++ ys) c ≡ Some s → (constant_in xs c ≡ Some s) ⊎ ((constant_in xs c ≡ None) × (constant_in ys c ≡ Some s))
@@ -167,7 +159,7 @@ pub own_extends : (p : Parts) (n : ℕ) → Extends (own_vocabulary p) (witness_
 own_extends p n = record {
   sorts = refl;
   relations = λ r ss h. h;
-  constants = λ c s h. constant_first (constants_from any_symbol Own 0 p.symbols) (witnesses_from 0 (take n p.witnesses)) c s h;
+  constants = λ c s h. constant-stop (constants_from any_symbol Own 0 p.symbols) (witnesses_from 0 (take n p.witnesses)) c s h;
 }
 
 more_witnesses : (j k b : ℕ) (ws : List WitnessDecl) (c : Sym) (s : SortId) → j ≤ k → constant_in (witnesses_from b (take j ws)) c ≡ Some s → constant_in (witnesses_from b (take k ws)) c ≡ Some s
@@ -187,7 +179,7 @@ witness_extends p j k le = record {
   sorts = refl;
   relations = λ r ss h. h;
   constants = λ c s h. elim (constant_split (constants_from any_symbol Own 0 p.symbols) (witnesses_from 0 (take j p.witnesses)) c s h) [
-    | inl e ↦ constant_first (constants_from any_symbol Own 0 p.symbols) (witnesses_from 0 (take k p.witnesses)) c s e
+    | inl e ↦ constant-stop (constants_from any_symbol Own 0 p.symbols) (witnesses_from 0 (take k p.witnesses)) c s e
     | inr e ↦ constant_second (constants_from any_symbol Own 0 p.symbols) (witnesses_from 0 (take k p.witnesses)) c e.0 ∙ more_witnesses j k 0 p.witnesses c s le e.1
   ];
 }

@@ -22,7 +22,7 @@ use Rattle.lv_system.specs.Vocabularies.{witness_vocabulary}
 use Rattle.lv_temporal.specs.TrueLabels.{chosen, pick, witness_at}
 use Rattle.lv_formula.proofs.Below.{all_below_same, any_below_same}
 use Rattle.lv_labels.proofs.Later.{later_same}
-use Rattle.lv_temporal.proofs.Fits.{agree_some, is_sort_some}
+use Rattle.lv_labels.proofs.InContext.{agree_some, is_sort_some}
 use Rattle.lv_labels.proofs.HoldsAt.{held}
 use Rattle.lv_temporal.proofs.Vocabularies.{witness_early}
 

@@ -24,4 +24,4 @@ pub use fault::{Memory, TreeFault};
 pub use list::{List, Text};
 pub use reader::{MAX_BYTES, read_tree};
 pub use tree::Tree;
-pub use writer::write_tree;
+pub use writer::{write_line, write_tree};

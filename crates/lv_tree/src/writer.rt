@@ -38,8 +38,17 @@ fn push_items(out: &mut Vec<u8>, items: &[Tree]) -> Result<(), AllocError>
     Ok(())
 }
 
-/// The tree on one line, with one space between two items of a list and none inside its brackets.
-/// The only error is want of memory.
+/// The tree on one line, with one space between two items of a list and none inside its brackets, whatever
+/// its words are and however deep its lists nest. The only error is want of memory.
+pub fn write_line(alloc: Global, tree: &Tree) -> Result<List<u8>, Memory>
+    ensures { IfOk result (λ bytes. bytes ≡ written tree.now) }
+{
+    let mut line = Vec::new(alloc);
+    push_tree(&mut line, tree)?;
+    Ok(List::from_vec(line))
+}
+
+/// The line of [`write_line`], which spells the tree. The only error is want of memory.
 ///
 /// The caller sees to it that each word has 1 to 64 bytes, all of them word bytes, and that lists nest
 /// at most 64 deep.
@@ -51,7 +60,6 @@ pub fn write_tree(alloc: Global, tree: &Tree) -> Result<List<u8>, Memory>
     ensures spells { IfOk result (λ bytes. SpellsTree bytes (placed 0 tree.now)) }
     ensures same { OnOk result (bare (placed 0 tree.now) ≡ bare tree.now) }
 {
-    let mut line = Vec::new(alloc);
-    push_tree(&mut line, tree)?;
-    Ok(List::from_vec(line))
+    let line = write_line(alloc, tree)?;
+    Ok(line)
 }

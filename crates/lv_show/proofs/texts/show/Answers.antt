@@ -1,12 +1,6 @@
-use Rattle.std.proofs.Common.{◌≡◌, ℕ, List, ap, ◌∙◌, rules}
-use Rattle.lv_grammar.specs.ShownSystems.{shown_items}
-use Rattle.lv_grammar.specs.Layout.{shown_text}
-use Rattle.lv_grammar.proofs.TextLaw.{lines_fit, text_again, text_made}
+use Rattle.std.proofs.Common.{◌≡◌, ◌∙◌, rules}
+use Rattle.lv_grammar.proofs.TextLaw.{text_again, text_made}
 use Rattle.lv_show.proofs.texts.show.Goals as goal
-
-pub push_lines-requires : goal.push_lines-requires
-push_lines-requires c =
-    lines_fit c.args.system.now c.as_slice-3.result.now (c.as_slice-3.ensures.value ∙ c.in_ok-trees.ensures ∙ ap shown_items c.parts-parts.ensures.value) c.parts-parts.ensures.fitting c.requires.words
 
 pub returns-clause-text : goal.returns-clause-text
 returns-clause-text c =
