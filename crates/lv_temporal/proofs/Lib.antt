@@ -32,9 +32,6 @@ pub mod TableFits
 pub mod Touched
 pub mod Turns
 pub mod Unrolled
-pub mod Visits
-pub mod VisitsProblem
-pub mod VisitsRun
 pub mod Vocabularies
 pub mod Walk
 pub mod Witnesses

@@ -3,5 +3,4 @@ pub mod Rows
 pub mod Samples
 pub mod Small
 pub mod TrueLabels
-pub mod Visits
 pub mod Walk

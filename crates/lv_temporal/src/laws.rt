@@ -3,16 +3,11 @@
 //! Each function here does nothing: it stands for the law that its contract states.
 ghost use Rattle.lv_formula.specs.declared.formula.Formula.TheVariants as make;
 ghost use Rattle.lv_formula.specs.declared.symbols.SortId.{SortId};
-ghost use Rattle.lv_formula.specs.declared.symbols.Sym.TheVariants as symbol;
 ghost use Rattle.lv_formula.specs.Meaning.{Meaning};
-ghost use Rattle.lv_labels.specs.Monitor.{is_kept};
-ghost use Rattle.lv_labels.specs.Rounds.{AreRounds};
-ghost use Rattle.lv_labels.specs.Runs.{IsLabelledRun};
 ghost use Rattle.lv_temporal.specs.Projections.{IsWithin, LooksAsCopied, Numbering, RunsAreWithin};
 ghost use Rattle.lv_temporal.specs.Rows.{AreRowsOfProblem};
-ghost use Rattle.lv_temporal.specs.Visits.{moved_outside, two_moves, unguarded, visits};
 ghost use Rattle.lv_labels.specs.Labels.{labels_of, reading};
-ghost use Rattle.lv_labels.specs.Obligations.{AreValid, BreaksCatch, InvariantsFit, IsInductive, obligations_of};
+ghost use Rattle.lv_labels.specs.Obligations.{AreValid, InvariantsFit, IsInductive, obligations_of};
 ghost use Rattle.lv_labels.specs.Positions.{Bounded};
 ghost use Rattle.lv_labels.specs.Problem.{Problem, problem_of};
 ghost use Rattle.lv_labels.specs.declared.moves.Move.TheVariants as M;
@@ -25,7 +20,7 @@ ghost use Rattle.lv_temporal.specs.Samples.{link_atom, link_label, links, node, 
 ghost use Rattle.lv_temporal.specs.Small.{IsBroken, small, small_loop, small_stem, unhelped};
 ghost use Rattle.lv_temporal.specs.TrueLabels.{TrueLabels};
 ghost use Rattle.lv_temporal.specs.Walk.{Walks};
-ghost use Rattle.std.specs.Prelude.{◌≡◌, ◌≢◌, ℕ, Bool, ◌∷◌, [], false, true, ◌+◌, ◌*◌, length};
+ghost use Rattle.std.specs.Prelude.{◌≡◌, ℕ, Bool, ◌∷◌, [], false, true, ◌+◌, ◌*◌, length};
 
 /// A lasso run of a system that violates the property, unrolled to any length, with a witness chosen for each
 /// witness formula and with the true table of each label at each position, is a labelled run of the negated
@@ -100,27 +95,4 @@ pub fn small_system()
 /// other one.
 pub fn missing_invariant()
     ensures { IsBroken unhelped (W.Step 0 M.Stay 0) }
-{}
-
-/// The definitions can be met over a sort too: a system with a parameter, a witness and a changing constant fits, all of its
-/// seventeen obligations are valid, and it has a labelled run in which a round follows a first one, after which the monitor
-/// freezes.
-pub fn system_over_a_sort()
-    ensures fits { fits_parts visits ≡ true }
-    ensures invariants { InvariantsFit visits }
-    ensures obligations { length (obligations_of visits) ≡ 17 }
-    ensures valid { AreValid visits }
-    ensures run { IsLabelledRun (problem_of visits) two_moves }
-    ensures rounds { AreRounds (problem_of visits) two_moves 0 (1 ∷ 2 ∷ []) }
-    ensures meets { Meets visits }
-{}
-
-/// What lies outside the kept elements isn't told apart: with the first two of its invariants alone the same system has a
-/// caught structure in which the constant isn't where it was saved, and was and is at elements that aren't kept.
-pub fn moved_outside_what_is_kept()
-    ensures broken { IsBroken unguarded W.Catch }
-    ensures caught { BreaksCatch (problem_of unguarded) moved_outside }
-    ensures moved { moved_outside.value (symbol.Own 0) ≢ moved_outside.value (symbol.Copy 0) }
-    ensures is_outside { is_kept moved_outside node (moved_outside.value (symbol.Own 0)) ≡ false }
-    ensures was_outside { is_kept moved_outside node (moved_outside.value (symbol.Copy 0)) ≡ false }
 {}

@@ -1,6 +1,6 @@
 use Rattle.std.proofs.Common.{arith, refl}
-use Rattle.lv_temporal.proofs.VisitsRun.{unguarded_broken, unguarded_caught}
-use Rattle.lv_temporal.proofs.laws.moved_outside_what_is_kept.Goals as goal
+use Rattle.lv_examples.proofs.VisitsRun.{unguarded_broken, unguarded_caught}
+use Rattle.lv_examples.proofs.laws.moved_outside_what_is_kept.Goals as goal
 
 pub returns : goal.returns
 returns c = record {

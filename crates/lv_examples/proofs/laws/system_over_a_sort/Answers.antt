@@ -5,11 +5,11 @@ use Rattle.lv_labels.specs.Problem.{problem_of}
 use Rattle.lv_temporal.proofs.Bound.{bounded}
 use Rattle.lv_temporal.proofs.ProblemFits.{kept_and_free, problem_fits}
 use Rattle.lv_temporal.proofs.LoopRounds.{meets}
-use Rattle.lv_temporal.proofs.Visits.{visits_valid}
-use Rattle.lv_temporal.proofs.VisitsProblem.{visits_fit, visits_invariants_fit}
-use Rattle.lv_temporal.proofs.VisitsRun.{visits_rounds, visits_run}
-use Rattle.lv_temporal.specs.Visits.{visits}
-use Rattle.lv_temporal.proofs.laws.system_over_a_sort.Goals as goal
+use Rattle.lv_examples.proofs.Visits.{visits_valid}
+use Rattle.lv_examples.proofs.VisitsProblem.{visits_fit, visits_invariants_fit}
+use Rattle.lv_examples.proofs.VisitsRun.{visits_rounds, visits_run}
+use Rattle.lv_examples.specs.Visits.{visits}
+use Rattle.lv_examples.proofs.laws.system_over_a_sort.Goals as goal
 
 pub returns : goal.returns
 returns c =

@@ -25,8 +25,8 @@ use Rattle.lv_labels.specs.declared.which.Which.{Which}
 use Rattle.lv_labels.specs.declared.which.Which.TheVariants as W
 use Rattle.lv_labels.specs.Obligations.{AreValid, Breaks, IsValid, invariants_of, obligations_of, vocabulary_of}
 use Rattle.lv_temporal.specs.Samples.{node}
-use Rattle.lv_temporal.specs.Visits.{is_at, seen, visits, w_due, w_done, w_missed, w_seen}
-use Rattle.lv_temporal.proofs.VisitsProblem.{done, missed, problem, problem-visits}
+use Rattle.lv_examples.specs.Visits.{is_at, seen, visits, w_due, w_done, w_missed, w_seen}
+use Rattle.lv_examples.proofs.VisitsProblem.{done, missed, problem, problem-visits}
 
 -- ---- truth values
 
@@ -119,7 +119,7 @@ unfulfilled : (m : Meaning) → IsStructureOf (step_vocabulary q a) m → LabelE
     → (is_done m ≡ false) × (m.holds (Next 0) (w m ∷ []) ≡ true)
 unfulfilled m s eq k =
     let both = and_parts (truth_in m (F.Not done) (reverse (w m ∷ []))) (m.holds (Next 0) (w m ∷ []))
-        (sym (eq 0 (omega arith) (w m ∷ []) (inside m s)) ∙ k.missed) in
+    (sym (eq 0 (omega arith) (w m ∷ []) (inside m s)) ∙ k.missed) in
     (was_not (is_done m) (simp (FF.folds_at) at both.0), both.1)
   where
     was_not : (b : Bool) → not b ≡ true → b ≡ false
@@ -148,7 +148,8 @@ start-missed m s b = false≢true (sym (simp (FF.folds_at) at b.fails) ∙ is_mi
 
 start-visited : NotBroken q (W.Start 1)
 start-visited m s b = false≢true (sym (simp (FF.folds_at) at b.fails)
-    ∙ or_left (over (is_touched_first q m) (node ∷ []) (w m ∷ [])) (is_seen m || false) (and_from (is_touched_first q m node (w m)) true (is_touched_at_first m) refl))
+    ∙ or_left (over (is_touched_first q m) (node ∷ []) (w m ∷ [])) (is_seen m || false)
+    (and_from (is_touched_first q m node (w m)) true (is_touched_at_first m) refl))
 
 start-frozen : NotBroken q (W.Start 2)
 start-frozen m s b = false≢true (sym (simp (FF.folds_at) at b.fails))
@@ -174,26 +175,37 @@ seen_when Stay m may k f = (frozen_parts (m.holds Frozen []) (is_seen m) (is_don
 seen_when Freeze m may k f = seen_then m may.2 k
 seen_when Save m may k f = (frozen_parts (m.holds Frozen []) (is_seen m) (is_done m) k.frozen f).0
 
+-- what two of the invariants say, in truth values
+due_or_seen-is : (n : Meaning) → truth_in n (F.Or (w_due ∷ (w_seen ∷ []))) [] ≡ (n.holds (Due 0) (w n ∷ []) || (is_seen n || false))
+due_or_seen-is n = simp (FF.folds_at) refl
+
+frozen_then_done-is : (n : Meaning) → truth_in n (F.Implies (F.Atom Frozen []) (F.And (w_seen ∷ (w_done ∷ [])))) []
+    ≡ (not (n.holds Frozen []) || (is_seen n && (is_done n && true)))
+frozen_then_done-is n = simp (FF.folds_at) refl
+
+visited_now : (m : Meaning) → truth_in m (is_at 0) (w m ∷ []) ≡ true → is_there m ≡ true
+visited_now m h = simp (FF.folds_at) at h
+
 step-missed : (mv : Move) → NotBroken q (W.Step 0 mv 0)
 step-missed mv m s b = false≢true (sym (simp (FF.folds_at) at b.fails) ∙ (unfulfilled m s b.labels (known m b.invariants)).1)
 
 step-visited : (mv : Move) → NotBroken q (W.Step 0 mv 1)
-step-visited Stay m s b = visit_fails (m.holds (Due 0) (w m ∷ [])) (is_there m) ((stepped q Stay a m).holds (Own 1) (w m ∷ []))
-    (simp (FF.folds_at) at b.fails)
-    (λ d e. seen_after Stay m s (or_right (is_seen m) (is_there m) e))
+step-visited Stay m s b =
+    visit_fails (m.holds (Due 0) (w m ∷ [])) (truth_in m (is_at 0) (w m ∷ [])) (is_seen (stepped q Stay a m)) (sym (due_or_seen-is (stepped q Stay a m)) ∙ b.fails)
+    (λ d e. seen_after Stay m s (or_right (is_seen m) (is_there m) (visited_now m e)))
     (λ d. seen_after Stay m s (or_left (is_seen m) (is_there m) (not_due (m.holds (Due 0) (w m ∷ [])) (is_seen m) (known m b.invariants).visited d)))
 step-visited Freeze m s b =
     let now = seen_after Freeze m s (or_left (is_seen m) (is_there m) (seen_then m b.may_move.2 (known m b.invariants))) in
-    visit_fails (over (is_touched m) (node ∷ []) (w m ∷ [])) (is_there m) ((stepped q Freeze a m).holds (Own 1) (w m ∷ []))
-    (simp (FF.folds_at) at b.fails) (λ d e. now) (λ d. now)
+    visit_fails (over (is_touched m) (node ∷ []) (w m ∷ [])) (truth_in m (is_at 0) (w m ∷ [])) (is_seen (stepped q Freeze a m))
+    (sym (due_or_seen-is (stepped q Freeze a m)) ∙ b.fails) (λ d e. now) (λ d. now)
 step-visited Save m s b =
     let now = seen_after Save m s (or_left (is_seen m) (is_there m) (seen_then m b.may_move.2 (known m b.invariants))) in
-    visit_fails (over (is_touched m) (node ∷ []) (w m ∷ [])) (is_there m) ((stepped q Save a m).holds (Own 1) (w m ∷ []))
-    (simp (FF.folds_at) at b.fails) (λ d e. now) (λ d. now)
+    visit_fails (over (is_touched m) (node ∷ []) (w m ∷ [])) (truth_in m (is_at 0) (w m ∷ [])) (is_seen (stepped q Save a m))
+    (sym (due_or_seen-is (stepped q Save a m)) ∙ b.fails) (λ d e. now) (λ d. now)
 
 step-frozen : (mv : Move) → NotBroken q (W.Step 0 mv 2)
-step-frozen mv m s b = frozen_fails (is_freeze mv || m.holds Frozen []) ((stepped q mv a m).holds (Own 1) (w m ∷ []))
-    ((stepped q mv a m).holds (Own 2) (w m ∷ [])) (simp (FF.folds_at) at b.fails)
+step-frozen mv m s b = frozen_fails (is_freeze mv || m.holds Frozen []) (is_seen (stepped q mv a m)) (is_done (stepped q mv a m))
+    (sym (frozen_then_done-is (stepped q mv a m)) ∙ b.fails)
     (λ f. let then = seen_when mv m b.may_move (known m b.invariants) f in
     (seen_after mv m s (or_left (is_seen m) (is_there m) then), done_after mv m s then))
 

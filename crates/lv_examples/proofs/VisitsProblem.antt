@@ -1,5 +1,5 @@
 -- The labels, the readings and the problem of the sample system over a sort, written out; and that it fits.
-use Rattle.std.proofs.Common.{◌≡◌, true, List, [], ◌∷◌, ◌++◌, refl, map, sym, ap, ap₂, subst, ◌∙◌}
+use Rattle.std.proofs.Common.{◌≡◌, true, false, ◌||◌, cond, List, [], ◌∷◌, ◌++◌, refl, map, sym, ap, ap₂, subst, ◌∙◌}
 use Rattle.lv_formula.specs.declared.symbols.Sym.TheVariants.{Label}
 use Rattle.lv_formula.specs.declared.terms.Term.TheVariants.{Var}
 use Rattle.lv_formula.specs.declared.formula.Formula.{Formula}
@@ -15,15 +15,15 @@ use Rattle.lv_system.specs.Fits.{fits_parts}
 use Rattle.lv_system.specs.Names.{names_connective, names_item, names_of, names_operator, names_part, names_run}
 use Rattle.lv_labels.specs.declared.key.Key.{Key}
 use Rattle.lv_labels.specs.Labels.{key_eq, key_of, keys_of, label_atom, labels_of, number_of, reading}
-use Rattle.lv_labels.specs.Once.{each_once}
+use Rattle.lv_labels.specs.Once.{each_once, once_behind}
 use Rattle.lv_labels.specs.Problem.{Problem, problem_of, problem_over}
 use Rattle.lv_labels.specs.Renaming.{free_variables}
-use Rattle.lv_labels.proofs.LabelsAt.{keys, plains, read-All, read-Always, read-Atom, read-Eventually, read-Not, whole, wholes}
+use Rattle.lv_labels.proofs.LabelsAt.{keys-All, keys-Always, keys-Atom, keys-Eventually, keys-Not, plain-Atom, plain-Not, read-All, read-Always, read-Atom, read-Eventually, read-Not, whole, wholes}
 use Rattle.lv_labels.proofs.Sameness.{key_decides}
 use Rattle.lv_labels.specs.Vocabularies.{catch_vocabulary}
 use Rattle.lv_labels.specs.Obligations.{InvariantsFit, invariants_of}
 use Rattle.lv_temporal.specs.Samples.{node}
-use Rattle.lv_temporal.specs.Visits.{done_then, is_at, unguarded, visits, visits_with}
+use Rattle.lv_examples.specs.Visits.{done_then, is_at, unguarded, visits, visits_with}
 
 abbrev missed_key : Key
 missed_key = record { sorts = node ∷ []; inner = T.Not done_then }
@@ -32,13 +32,26 @@ key-missed : key_of (node ∷ []) (T.Not done_then) ≡ missed_key
 key-missed = simp (TF.folds, TF.folds_at) refl
 
 keys-always : keys_of (T.Always (T.Not done_then)) (node ∷ []) ≡ missed_key ∷ []
-keys-always = simp (keys, plains, TF.folds, TF.folds_at) refl
+keys-always = keys-Always (T.Not done_then) (node ∷ [])
+    ∙ ap (λ f. key_of (node ∷ []) f ∷ keys_of (T.Not done_then) (node ∷ [])) (plain-Not done_then ∙ ap T.Not (plain-Atom (Own 2) (Var 0 ∷ [])))
+    ∙ ap (λ ks. key_of (node ∷ []) (T.Not done_then) ∷ ks) (keys-Not done_then (node ∷ []) ∙ keys-Atom (Own 2) (Var 0 ∷ []) (node ∷ []))
+    ∙ ap (λ k. k ∷ []) key-missed
 
 keys-property : keys_of (T.All node (T.Eventually done_then)) [] ≡ missed_key ∷ []
-keys-property = simp (keys, plains, TF.folds, TF.folds_at) refl
+keys-property = keys-All node (T.Eventually done_then) [] ∙ keys-Eventually done_then (node ∷ [])
+    ∙ ap (λ f. key_of (node ∷ []) (T.Not f) ∷ keys_of done_then (node ∷ [])) (plain-Atom (Own 2) (Var 0 ∷ []))
+    ∙ ap (λ ks. key_of (node ∷ []) (T.Not done_then) ∷ ks) (keys-Atom (Own 2) (Var 0 ∷ []) (node ∷ []))
+    ∙ ap (λ k. k ∷ []) key-missed
+
+-- a label that stands alone stays so, where it comes again
+again : (k : Key) → key_eq k k ≡ true → (ks : List Key) → once_behind key_eq (k ∷ []) (k ∷ ks) ≡ once_behind key_eq (k ∷ []) ks
+again k h ks = ap (λ b. once_behind key_eq (cond (b || false) (k ∷ []) ((k ∷ []) ++ (k ∷ []))) ks) h
+
+thrice : (k : Key) → key_eq k k ≡ true → each_once key_eq (k ∷ (k ∷ (k ∷ []))) ≡ k ∷ []
+thrice k h = again k h (k ∷ []) ∙ again k h []
 
 once : each_once key_eq (missed_key ∷ (missed_key ∷ (missed_key ∷ []))) ≡ missed_key ∷ []
-once = rw (key_decides.reflexive missed_key) refl
+once = thrice missed_key (key_decides.reflexive missed_key)
 
 labels-visits : (is : List Invariant) → labels_of (visits_with is) ≡ missed_key ∷ []
 labels-visits is = ap₂ (λ ks ls. each_once key_eq ((ks ++ []) ++ ((ks ++ []) ++ ls))) keys-always keys-property ∙ once

@@ -1,5 +1,5 @@
 -- The sample system over a sort has a labelled run with a round after a freeze; with fewer invariants a structure is caught.
-use Rattle.std.proofs.Common.{◌≡◌, ℕ, zero, suc, ◌<◌, ◌≤◌, Bool, true, false, not, ◌&&◌, List, [], ◌∷◌, get_or, reverse, refl, sym, ap, subst, ◌∙◌, arith, ltb-true}
+use Rattle.std.proofs.Common.{◌≡◌, ℕ, zero, suc, ◌<◌, ◌≤◌, Bool, true, false, not, ◌&&◌, List, [], ◌∷◌, get_or, reverse, refl, sym, ap, ap₂, subst, eqb, ◌∙◌, arith, ltb-true}
 use Rattle.std.proofs.Math.Bool.{and-false}
 use Rattle.std.proofs.lemmas.Bool.{and_parts, false≢true}
 use Rattle.std.proofs.lemmas.List.Elements.{All-cons, All-nil}
@@ -23,14 +23,14 @@ use Rattle.lv_labels.specs.declared.which.Which.TheVariants as W
 use Rattle.lv_labels.specs.Obligations.{Breaks, BreaksCatch}
 use Rattle.lv_temporal.specs.Small.{IsBroken}
 use Rattle.lv_temporal.specs.Samples.{node}
-use Rattle.lv_temporal.specs.Visits.{after_moves, is_at, moved_outside, seen, two_moves, unguarded, unseen, visits}
+use Rattle.lv_examples.specs.Visits.{after_moves, is_at, moved_outside, seen, two_moves, unguarded, unseen, visits}
 use Rattle.lv_temporal.proofs.Bound.{touched_in_range}
 use Rattle.lv_temporal.proofs.ClosedFits.{IsFit}
 use Rattle.lv_temporal.proofs.Numbered.{catch_tables, catch_tables_sound}
 use Rattle.lv_temporal.proofs.ProblemFits.{choices, problem_fits}
 use Rattle.lv_temporal.proofs.SortsThere.{sorts_there}
-use Rattle.lv_temporal.proofs.Visits.{q}
-use Rattle.lv_temporal.proofs.VisitsProblem.{done, problem, problem-visits, unguarded_fits, unguarded_invariants_fit, visits_fit, visits_invariants_fit}
+use Rattle.lv_examples.proofs.Visits.{q}
+use Rattle.lv_examples.proofs.VisitsProblem.{done, problem, problem-visits, unguarded_fits, unguarded_invariants_fit, visits_fit, visits_invariants_fit}
 
 -- what holds at each position that there is holds at all of them
 three : (P : ℕ → Type 0) → P 0 → P 1 → P 2 → (i : ℕ) → i ≤ 2 → P i
@@ -78,15 +78,15 @@ not_done t = ap (λ b. in_range unseen (node ∷ []) (t ∷ []) && b) unseen_the
     unseen_then : truth_in unseen (seen 0) (t ∷ (0 ∷ [])) ≡ false
     unseen_then = simp (FF.folds_at) refl
 
+not-is : (n : Meaning) (env : Env) → truth_in n (F.Not done) env ≡ not (n.holds (Own 2) (get_or env 0 0 ∷ []))
+not-is n env = simp (FF.folds_at) refl
+
 first_equation : LabelEquation q unseen (λ l tuple. (after_moves 1).holds (Label l) tuple)
 first_equation zero b tuple inside = simp (FF.folds_at) refl
 first_equation (suc l) b tuple inside = absurd (omega (arith, b))
 
 second_equation : LabelEquation q (after_moves 1) (λ l tuple. (after_moves 2).holds (Label l) tuple)
-second_equation zero b tuple inside = sym (ap (λ c. c && true) (undone (reverse tuple)))
-  where
-    undone : (env : Env) → truth_in (after_moves 1) (F.Not done) env ≡ true
-    undone env = simp (FF.folds_at) (ap not (not_done (get_or env 0 0)))
+second_equation zero b tuple inside = sym (ap (λ c. c && true) (not-is (after_moves 1) (reverse tuple) ∙ ap not (not_done (get_or (reverse tuple) 0 0))))
 second_equation (suc l) b tuple inside = absurd (omega (arith, b))
 
 run : IsLabelledRun q two_moves
@@ -109,8 +109,11 @@ fit = subst IsFit (problem-visits visits.invariants) (problem_fits visits visits
 only_node : (i : ℕ) → i ≤ 2 → (x : ℕ) → touched q two_moves i node x ≡ true → x ≡ 0
 only_node i l x h = let k : x < 1 = ltb-true x 1 (touched_in_range q two_moves fit run i l node x h) in omega (arith, k)
 
+at-is : (n : Meaning) (x : ℕ) → truth_in n (is_at 0) (reverse (x ∷ [])) ≡ eqb (n.value (Own 0)) x
+at-is n x = simp (FF.folds_at) refl
+
 here : (m : Meaning) → m.value (Own 0) ≡ 0 → (x : ℕ) → x ≡ 0 → truth_in m (is_at 0) (reverse (x ∷ [])) ≡ true
-here m e x z = simp (FF.folds_at) (rw (e, z) refl)
+here m e x z = at-is m x ∙ ap₂ (λ c y. eqb c y) e z
 
 visited : (i : ℕ) → i ≤ 2 → (after_moves i).value (Own 0) ≡ 0 → (tuple : List ℕ) → over (touched q two_moves i) (node ∷ []) tuple ≡ true
     → truth_in (after_moves i) (is_at 0) (reverse tuple) ≡ true
