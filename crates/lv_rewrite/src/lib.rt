@@ -6,6 +6,7 @@
 #![tactic(auto)]
 
 mod instantiating;
+mod numbers;
 mod replacing;
 mod shifting;
 

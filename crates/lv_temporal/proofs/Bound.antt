@@ -24,9 +24,10 @@ use Rattle.lv_temporal.proofs.Touched.{passed_in}
 use Rattle.lv_labels.specs.declared.moves.Move.{Move}
 use Rattle.lv_labels.specs.declared.moves.Move.TheVariants.{Stay, Freeze, Save}
 use Rattle.lv_labels.specs.Monitor.{LooksSaved, MayMove, is_freeze, is_kept, is_save, shown}
+use Rattle.lv_temporal.specs.Projections.{LooksLike, RunsAreWithin}
 use Rattle.lv_temporal.specs.Walk.{IsWalk, Walks, moves}
 use Rattle.lv_temporal.proofs.Basics.{any_below-none}
-use Rattle.lv_temporal.proofs.Codes.{LooksLike, projection, projection_below, projection_same}
+use Rattle.lv_temporal.proofs.Codes.{projection, projection_below, projection_same}
 use Rattle.lv_temporal.proofs.ClosedFits.{IsFit}
 use Rattle.lv_temporal.proofs.SameWords.{own_constant_in_range}
 use Rattle.lv_temporal.proofs.Sense.{AreKept, NoneCaught}
@@ -105,33 +106,33 @@ module _ (q : Problem) (r : Run) (fit : IsFit q) (run : IsLabelledRun q r) where
       longer : (x : ℕ) × (i ≤ x) × (x < j) × (truth_in (r.at x) (justice_at q c).body (reverse tuple) ≡ true) → (x : ℕ) × (i ≤ x) × (x < k) × (truth_in (r.at x) (justice_at q c).body (reverse tuple) ≡ true)
       longer w = (w.0, w.1, le_trans w.2 l, w.3)
 
-  module _ (f s : ℕ) (fs : f < s) (sl : s ≤ r.last) (first : IsRound q r 0 f) (second : IsRound q r f s) where
+  module _ (f s : ℕ) (fs : f < s) (first : f ≤ r.last → IsRound q r 0 f) (second : s ≤ r.last → IsRound q r f s) where
     abbrev mv : ℕ → Move
     mv = moves f s
 
     stays : (i : ℕ) → (i ≡ f → ⊥) → (i ≡ s → ⊥) → is_move (mv i) ≡ false
     stays i a b = ap is_move (moves_else f s i a b)
 
-    may_freeze : MayMove q Freeze (walk q r mv f)
-    may_freeze = (
-      frozen_at q r fit run mv f ∙ any_below-none f (λ k. is_freeze (mv k)) (λ k l. freeze_else f s k (λ e. omega (arith, e))),
-      saved_at q r fit run mv f ∙ any_below-none f (λ k. is_save (mv k)) (λ k l. save_else f s k (λ e. omega (arith, e))),
-      none_due_first q r fit run mv f (omega arith) (λ k l. stays k (λ e. omega (arith, e)) (λ e. omega (arith, e))) first,
+    may_freeze : f ≤ r.last → MayMove q Freeze (walk q r mv f)
+    may_freeze l = (
+      frozen_at q r fit run mv f ∙ any_below-none f (λ k. is_freeze (mv k)) (λ k n. freeze_else f s k (λ e. omega (arith, e))),
+      saved_at q r fit run mv f ∙ any_below-none f (λ k. is_save (mv k)) (λ k n. save_else f s k (λ e. omega (arith, e))),
+      none_due_first q r fit run mv f l (λ k n. stays k (λ e. omega (arith, e)) (λ e. omega (arith, e))) (first l),
     )
 
-    may_save : MayMove q Save (walk q r mv s)
-    may_save = (
+    may_save : s ≤ r.last → MayMove q Save (walk q r mv s)
+    may_save l = (
       frozen_at q r fit run mv s ∙ any_below-holds s (λ k. is_freeze (mv k)) f fs (ap is_freeze (moves_first f s)),
       saved_at q r fit run mv s ∙ any_below-none s (λ k. is_save (mv k)) (λ k l. save_else f s k (λ e. omega (arith, e))),
-      none_due_since q r fit run mv f s fs (omega arith) (ap is_move (moves_first f s)) (λ k l n. stays k (λ e. omega (arith, e)) (λ e. omega (arith, e))) second,
+      none_due_since q r fit run mv f s fs l (ap is_move (moves_first f s)) (λ k m n. stays k (λ e. omega (arith, e)) (λ e. omega (arith, e))) (second l),
     )
 
     -- each move of the walk is allowed
     pub may : (i : ℕ) → i < r.last → MayMove q (mv i) (walk q r mv i)
     may i l = elim (cases_eq i f) [
-      | inl a ↦ rw (a, moves_first f s) may_freeze
+      | inl a ↦ rw (a, moves_first f s) (may_freeze (omega (arith, l, a)))
       | inr a ↦ elim (cases_eq i s) [
-        | inl b ↦ rw (b, moves_second f s fs) may_save
+        | inl b ↦ rw (b, moves_second f s fs) (may_save (omega (arith, l, b)))
         | inr b ↦ rw (moves_else f s i a b) tt
       ]
     ]
@@ -179,11 +180,18 @@ module _ (q : Problem) (r : Run) (fit : IsFit q) (run : IsLabelledRun q r) where
 
     -- the ends of two rounds after a freeze do not look the same on what was touched
     pub differ : LooksLike q (touched q r f) (r.at s) (r.at e) → ⊥
-    differ h = none (walk q r mw e) (monitored_at q r fit run mw e el) (axioms_at q r fit run mw e el) (invariants_at q r fit run mw kept (may f s fs (omega arith) first second) e el) (record {
+    differ h = none (walk q r mw e) (monitored_at q r fit run mw e el) (axioms_at q r fit run mw e el) (invariants_at q r fit run mw kept (may f s fs (λ l. first) (λ l. second)) e el) (record {
       saved = saved_at q r fit run mw e ∙ any_below-holds e (λ k. is_save (mw k)) s se (ap is_save (moves_second f s fs));
       none_due = none_due_since q r fit run mw s e se el (ap is_move (moves_second f s fs)) (λ k l n. ap is_move (moves_else f s k (λ a. omega (arith, a)) (λ a. omega (arith, a)))) third;
       returned = looks_saved h;
     })
+
+-- what is touched and what constants are is in the range of the run's sorts
+pub runs_within : (q : Problem) → IsFit q → RunsAreWithin q
+runs_within q fit r run i l = (
+  (λ s x h. ltb-true x ((r.at 0).size s) (touched_in_range q r fit run i l s x h)),
+  (λ c s b k. rw (← size_along q r fit run i l s) (own_constant_in_range q (r.at i) (run.structures i l) c s b k)),
+)
 
 -- the ends of the rounds after a freeze
 module _ (q : Problem) (r : Run) (fit : IsFit q) (run : IsLabelledRun q r) (kept : AreKept q) (none : NoneCaught q) (f : ℕ) (fl : f ≤ r.last) (first : IsRound q r 0 f) where
@@ -193,18 +201,12 @@ module _ (q : Problem) (r : Run) (fit : IsFit q) (run : IsLabelledRun q r) (kept
   abbrev Ends : ℕ → ℕ → Type 0
   Ends s e = (s < e) × (e ≤ r.last) × IsRound q r s e
 
-  in_sizes : (e : ℕ) → e ≤ r.last → (c : ℕ) (s : SortId) → c < length q.parts.symbols → constant_sort (symbol_at q.parts c).shape ≡ Some s → (r.at e).value (Own c) < (r.at 0).size s
-  in_sizes e l c s b k = rw (← size_along q r fit run e l s) (own_constant_in_range q (r.at e) (run.structures e l) c s b k)
-
-  touched_below : (s : SortId) (x : ℕ) → touched q r f s x ≡ true → x < (r.at 0).size s
-  touched_below s x h = ltb-true x ((r.at 0).size s) (touched_in_range q r fit run f fl s x h)
-
   num_below : (e : ℕ) → e ≤ r.last → num e < valuations q (touched q r f) (r.at 0).size
-  num_below e l = projection_below q (touched q r f) (r.at 0).size (r.at e) (in_sizes e l)
+  num_below e l = projection_below q (touched q r f) (r.at 0).size (r.at e) (runs_within q fit r run e l).1
 
   num_apart : (s e : ℕ) → Ends f s → Ends s e → eqb (num s) (num e) ≡ false
   num_apart s e a b = ne_eqb (num s) (num e) (λ h. differ q r fit run kept none f s e a.0 b.0 b.1 first a.2 b.2
-      (projection_same q (touched q r f) (r.at 0).size touched_below (r.at s) (r.at e) (in_sizes s a.1) (in_sizes e b.1) h))
+      (projection_same q (touched q r f) (r.at 0).size (runs_within q fit r run f fl).0 (r.at s) (r.at e) (runs_within q fit r run s a.1).1 (runs_within q fit r run e b.1).1 h))
 
   ends_after : (s j : ℕ) (ends : List ℕ) → s < j → IsRound q r s j → AreRounds q r j ends → AllByRecursion (Ends s) ends
   ends_after s j [] l h a = tt
@@ -236,7 +238,7 @@ module _ (q : Problem) (r : Run) (fit : IsFit q) (run : IsLabelledRun q r) (kept
 
 -- where starts and steps are valid the monitor can walk along each labelled run
 pub walks : (q : Problem) → IsFit q → AreKept q → Walks q
-walks q fit kept r run f s fs sl first second = (walk q r (moves f s), is_walk q r fit run f s fs sl first second kept)
+walks q fit kept r run f s fs first second = (walk q r (moves f s), is_walk q r fit run f s fs first second kept)
 
 -- where moreover nothing is caught, each labelled run has few rounds after a freeze
 pub bounded : (q : Problem) → IsFit q → AreKept q → NoneCaught q → (r : Run) → IsLabelledRun q r → IsBounded q r

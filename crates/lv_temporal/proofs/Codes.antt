@@ -1,6 +1,6 @@
 -- A projection has a number below the number of projections, and projections with one number are the same.
-use Rattle.std.proofs.Common.{◌≡◌, ℕ, zero, suc, ◌+◌, ◌*◌, ◌^◌, ◌/◌, ◌%◌, ◌<◌, ◌≤◌, Bool, true, false, cond, refl, sym, ap, ◌∙◌, List, [], ◌∷◌, length, arith, inl, inr, suc-mul, zero-mul, pow-add, mul-one, lit<, le_trans, Option, Some, None}
-use Rattle.std.proofs.lemmas.Bool.{and_parts, cases_eq, cases_order, cond_both, false≢true}
+use Rattle.std.proofs.Common.{◌≡◌, ℕ, zero, suc, ◌+◌, ◌*◌, ◌^◌, ◌/◌, ◌%◌, ◌<◌, ◌≤◌, Bool, true, false, cond, refl, sym, ap, ap₂, ◌∙◌, List, [], ◌∷◌, length, arith, inl, inr, suc-mul, zero-mul, pow-add, mul-one, lit<, le_trans, Option, Some, None}
+use Rattle.std.proofs.lemmas.Bool.{and_from, and_parts, cases_eq, cases_order, cond_both, false≢true}
 use Rattle.std.proofs.Math.Arith.{digits_lt, digits_div, digits_mod, le-zero}
 use Rattle.lv_formula.specs.declared.symbols.SortId.{SortId}
 use Rattle.lv_formula.specs.declared.symbols.Sym.TheVariants.{Own, Label}
@@ -14,6 +14,7 @@ use Rattle.lv_system.specs.Vocabularies.{constant_sort, relation_sorts}
 use Rattle.lv_labels.specs.Problem.{Problem, label_at}
 use Rattle.lv_labels.specs.Rounds.{how_many, number_of_tuples, product, valuations, ways_of, ways_of_shape}
 use Rattle.lv_labels.specs.Monitor.{shown}
+use Rattle.lv_temporal.specs.Projections.{AreConstantsWithin, IsWithin, LooksAsCopied, LooksLike, Numbering}
 
 -- the number with these digits to these bases
 pub number : ℕ → (ℕ → ℕ) → (ℕ → ℕ) → ℕ
@@ -42,6 +43,16 @@ number_same (suc n) base d d' h h' e i l = elim (cases_eq i n) [
   | inl k ↦ rw k (low_same (number n base d) (number n base d') (base n) (d n) (d' n) (h n (omega arith)) (h' n (omega arith)) e)
   | inr k ↦ number_same n base d d' (λ j m. h j (omega arith)) (λ j m. h' j (omega arith)) (high_same (number n base d) (number n base d') (base n) (d n) (d' n) (h n (omega arith)) (h' n (omega arith)) e) i (omega (arith, k))
 ]
+
+-- numbers with equal digits are equal
+number_alike : (n : ℕ) (base d d' : ℕ → ℕ) → ((i : ℕ) → i < n → d i ≡ d' i) → number n base d ≡ number n base d'
+unfolding number
+number_alike zero base d d' h = refl
+number_alike (suc n) base d d' h = ap₂ (λ x y. x * base n + y) (number_alike n base d d' (λ i l. h i (omega arith))) (h n (omega arith))
+
+digit_alike : (b : Bool) (v w : ℕ) → (b ≡ true → v ≡ w) → cond b v 0 ≡ cond b w 0
+digit_alike true v w h = h refl
+digit_alike false v w h = refl
 
 abbrev digit_base : (ℕ → Bool) → ℕ → ℕ → ℕ
 digit_base set t e = cond (set e) (2 ^ t) 1
@@ -84,7 +95,7 @@ module _ (set : SortId → ℕ → Bool) (size : SortId → ℕ) where
   code_below (s ∷ ss) f = rw (← ways_product (set s) (number_of_tuples set size ss) (size s)) (number_below (size s) (digit_base (set s) (number_of_tuples set size ss)) (digit_in (set s) (λ e. code set size ss (λ t. f (e ∷ t)))) (λ e l. digit_below (set s e) (code set size ss (λ t. f (e ∷ t))) (number_of_tuples set size ss) (code_below ss (λ t. f (e ∷ t)))))
 
   -- sets of tuples with one number are the same over the set
-  pub code_same : ((s : SortId) (e : ℕ) → set s e ≡ true → e < size s) → (ss : List SortId) (f g : List ℕ → Bool) → code set size ss f ≡ code set size ss g → (tuple : List ℕ) → over set ss tuple ≡ true → f tuple ≡ g tuple
+  pub code_same : IsWithin size set → (ss : List SortId) (f g : List ℕ → Bool) → code set size ss f ≡ code set size ss g → (tuple : List ℕ) → over set ss tuple ≡ true → f tuple ≡ g tuple
   unfolding code
   code_same within [] f g e [] o = bit_same (f []) (g []) e
   code_same within [] f g e (x ∷ xs) o = absurd (false≢true o)
@@ -98,6 +109,14 @@ module _ (set : SortId → ℕ → Bool) (size : SortId → ℕ) where
     where
       chosen : {b : Bool} {v v' : ℕ} → b ≡ true → cond b v 0 ≡ cond b v' 0 → v ≡ v'
       chosen {b} {v} {v'} h k = rw h at k
+
+  -- sets of tuples that are the same over the set have one number
+  pub code_alike : (ss : List SortId) (f g : List ℕ → Bool) → ((tuple : List ℕ) → over set ss tuple ≡ true → f tuple ≡ g tuple) → code set size ss f ≡ code set size ss g
+  unfolding code
+  code_alike [] f g h = ap (λ b. cond b 1 0) (h [] refl)
+  code_alike (s ∷ ss) f g h = number_alike (size s) (digit_base (set s) (number_of_tuples set size ss)) (digit_in (set s) (λ e. code set size ss (λ t. f (e ∷ t)))) (digit_in (set s) (λ e. code set size ss (λ t. g (e ∷ t))))
+      (λ e l. digit_alike (set s e) (code set size ss (λ t. f (e ∷ t))) (code set size ss (λ t. g (e ∷ t)))
+      (λ k. code_alike ss (λ t. f (e ∷ t)) (λ t. g (e ∷ t)) (λ t o. h (e ∷ t) (and_from (set s e) (over set ss t) k o))))
 
 -- the place of an element in the set, counted from 1, or 0 where it is outside
 abbrev pub spot : (ℕ → Bool) → ℕ → ℕ
@@ -140,6 +159,16 @@ spot_cases set a b false false h k e = refl
 pub spot_same : (set : ℕ → Bool) (a b : ℕ) → spot set a ≡ spot set b → shown set a ≡ shown set b
 spot_same set a b e = spot_cases set a b (set a) (set b) refl refl e
 
+spot_alike_at : (set : ℕ → Bool) (a b : ℕ) (x y : Bool) → ◌≡◌ {A = Option ℕ} (cond x (Some a) None) (cond y (Some b) None) → cond x (suc (how_many set a)) 0 ≡ cond y (suc (how_many set b)) 0
+spot_alike_at set a b true true e = let k : a ≡ b = cc in ap (λ c. suc (how_many set c)) k
+spot_alike_at set a b true false e = cc
+spot_alike_at set a b false true e = cc
+spot_alike_at set a b false false e = refl
+
+-- elements that show the same have one spot
+pub spot_alike : (set : ℕ → Bool) (a b : ℕ) → shown set a ≡ shown set b → spot set a ≡ spot set b
+spot_alike set a b e = spot_alike_at set a b (set a) (set b) e
+
 -- how a symbol looks, as a number below its ways
 abbrev pub shape_digit : (SortId → ℕ → Bool) → (SortId → ℕ) → Meaning → ℕ → Shape → ℕ
 shape_digit set size m i (Relation sorts) = code set size sorts (m.holds (Own i))
@@ -155,12 +184,6 @@ projection q set size m =
     number (length q.parts.symbols) (λ i. ways_of set size (symbol_at q.parts i)) (λ i. symbol_digit set size m i (symbol_at q.parts i)) * product (length q.labels) (λ l. 2 ^ number_of_tuples set size (label_at q l).sorts)
     + number (length q.labels) (λ l. 2 ^ number_of_tuples set size (label_at q l).sorts) (λ l. code set size (label_at q l).sorts (m.holds (Label l)))
 
--- on the set each changing symbol and each label is the same in both
-pub record LooksLike (q : Problem) (set : SortId → ℕ → Bool) (m n : Meaning) : Type 0 where
-  pub relations : (r : ℕ) (sorts : List SortId) → r < length q.parts.symbols → (symbol_at q.parts r).fixed ≡ false → relation_sorts (symbol_at q.parts r).shape ≡ Some sorts → (tuple : List ℕ) → over set sorts tuple ≡ true → m.holds (Own r) tuple ≡ n.holds (Own r) tuple
-  pub labels : (l : ℕ) → l < length q.labels → (tuple : List ℕ) → over set (label_at q l).sorts tuple ≡ true → m.holds (Label l) tuple ≡ n.holds (Label l) tuple
-  pub constants : (c : ℕ) (sort : SortId) → c < length q.parts.symbols → (symbol_at q.parts c).fixed ≡ false → constant_sort (symbol_at q.parts c).shape ≡ Some sort → shown (set sort) (m.value (Own c)) ≡ shown (set sort) (n.value (Own c))
-
 module _ (q : Problem) (set : SortId → ℕ → Bool) (size : SortId → ℕ) where
   shape_below : (m : Meaning) (i : ℕ) (x : Shape) → ((s : SortId) → constant_sort x ≡ Some s → m.value (Own i) < size s) → shape_digit set size m i x < ways_of_shape set size x
   shape_below m i (Relation sorts) h = code_below set size sorts (m.holds (Own i))
@@ -170,17 +193,14 @@ module _ (q : Problem) (set : SortId → ℕ → Bool) (size : SortId → ℕ) w
   fixed_below true v w l = lit< tt
   fixed_below false v w l = l
 
-  abbrev InSizes : Meaning → Type 0
-  InSizes m = (c : ℕ) (s : SortId) → c < length q.parts.symbols → constant_sort (symbol_at q.parts c).shape ≡ Some s → m.value (Own c) < size s
-
-  symbols_below : (m : Meaning) → InSizes m → (i : ℕ) → i < length q.parts.symbols → symbol_digit set size m i (symbol_at q.parts i) < ways_of set size (symbol_at q.parts i)
+  symbols_below : (m : Meaning) → AreConstantsWithin q size m → (i : ℕ) → i < length q.parts.symbols → symbol_digit set size m i (symbol_at q.parts i) < ways_of set size (symbol_at q.parts i)
   symbols_below m h i l = fixed_below (symbol_at q.parts i).fixed (shape_digit set size m i (symbol_at q.parts i).shape) (ways_of_shape set size (symbol_at q.parts i).shape) (shape_below m i (symbol_at q.parts i).shape (λ s c. h i s l c))
 
   labels_below : (m : Meaning) (l : ℕ) → l < length q.labels → code set size (label_at q l).sorts (m.holds (Label l)) < 2 ^ number_of_tuples set size (label_at q l).sorts
   labels_below m l b = code_below set size (label_at q l).sorts (m.holds (Label l))
 
   -- the number of a projection is below the number of projections
-  pub projection_below : (m : Meaning) → InSizes m → projection q set size m < valuations q set size
+  pub projection_below : (m : Meaning) → AreConstantsWithin q size m → projection q set size m < valuations q set size
   unfolding projection
   projection_below m h = digits_lt (number_below (length q.parts.symbols) _ _ (symbols_below m h)) (number_below (length q.labels) _ _ (labels_below m))
 
@@ -188,7 +208,7 @@ module _ (q : Problem) (set : SortId → ℕ → Bool) (size : SortId → ℕ) w
   changing_same true v w h e = absurd (false≢true (sym h))
   changing_same false v w h e = e
 
-  same_relation : ((s : SortId) (e : ℕ) → set s e ≡ true → e < size s) → (m n : Meaning) (i : ℕ) (x : Shape) (sorts : List SortId) → relation_sorts x ≡ Some sorts → shape_digit set size m i x ≡ shape_digit set size n i x → (tuple : List ℕ) → over set sorts tuple ≡ true → m.holds (Own i) tuple ≡ n.holds (Own i) tuple
+  same_relation : IsWithin size set → (m n : Meaning) (i : ℕ) (x : Shape) (sorts : List SortId) → relation_sorts x ≡ Some sorts → shape_digit set size m i x ≡ shape_digit set size n i x → (tuple : List ℕ) → over set sorts tuple ≡ true → m.holds (Own i) tuple ≡ n.holds (Own i) tuple
   same_relation within m n i (Relation ss) sorts r e tuple o = let same : ss ≡ sorts = cc in code_same set size within ss (m.holds (Own i)) (n.holds (Own i)) e tuple (rw same o)
   same_relation within m n i (Constant s) sorts r e tuple o = cc
 
@@ -197,7 +217,7 @@ module _ (q : Problem) (set : SortId → ℕ → Bool) (size : SortId → ℕ) w
   same_constant m n i (Constant t) sort r e = let same : t ≡ sort = cc in rw (← same) (spot_same (set t) (m.value (Own i)) (n.value (Own i)) e)
 
   -- projections with one number look the same
-  pub projection_same : ((s : SortId) (e : ℕ) → set s e ≡ true → e < size s) → (m n : Meaning) → InSizes m → InSizes n → projection q set size m ≡ projection q set size n → LooksLike q set m n
+  pub projection_same : IsWithin size set → (m n : Meaning) → AreConstantsWithin q size m → AreConstantsWithin q size n → projection q set size m ≡ projection q set size n → LooksLike q set m n
   unfolding projection
   projection_same within m n hm hn e = record {
     relations = λ r sorts l f k tuple o. same_relation within m n r (symbol_at q.parts r).shape sorts k (changing r l f) tuple o;
@@ -215,3 +235,34 @@ module _ (q : Problem) (set : SortId → ℕ → Bool) (size : SortId → ℕ) w
 
       changing : (i : ℕ) → i < length q.parts.symbols → (symbol_at q.parts i).fixed ≡ false → shape_digit set size m i (symbol_at q.parts i).shape ≡ shape_digit set size n i (symbol_at q.parts i).shape
       changing i l f = changing_same (symbol_at q.parts i).fixed (shape_digit set size m i (symbol_at q.parts i).shape) (shape_digit set size n i (symbol_at q.parts i).shape) f (high i l)
+
+  shape_alike : (m n : Meaning) (i : ℕ) (x : Shape)
+      → ((sorts : List SortId) → relation_sorts x ≡ Some sorts → (tuple : List ℕ) → over set sorts tuple ≡ true → m.holds (Own i) tuple ≡ n.holds (Own i) tuple)
+      → ((sort : SortId) → constant_sort x ≡ Some sort → shown (set sort) (m.value (Own i)) ≡ shown (set sort) (n.value (Own i)))
+      → shape_digit set size m i x ≡ shape_digit set size n i x
+  shape_alike m n i (Relation ss) relations constants = code_alike set size ss (m.holds (Own i)) (n.holds (Own i)) (relations ss refl)
+  shape_alike m n i (Constant s) relations constants = spot_alike (set s) (m.value (Own i)) (n.value (Own i)) (constants s refl)
+
+  changing_alike : (b : Bool) (v w : ℕ) → (b ≡ false → v ≡ w) → cond b 0 v ≡ cond b 0 w
+  changing_alike true v w h = refl
+  changing_alike false v w h = h refl
+
+  -- structures that look the same have one number
+  pub projection_alike : (m n : Meaning) → LooksLike q set m n → projection q set size m ≡ projection q set size n
+  unfolding projection
+  projection_alike m n h = ap₂ (λ x y. x * product (length q.labels) (λ l. 2 ^ number_of_tuples set size (label_at q l).sorts) + y)
+      (number_alike (length q.parts.symbols) (λ i. ways_of set size (symbol_at q.parts i)) (λ i. symbol_digit set size m i (symbol_at q.parts i)) (λ i. symbol_digit set size n i (symbol_at q.parts i)) digits)
+      (number_alike (length q.labels) (λ l. 2 ^ number_of_tuples set size (label_at q l).sorts) (λ l. code set size (label_at q l).sorts (m.holds (Label l))) (λ l. code set size (label_at q l).sorts (n.holds (Label l)))
+      (λ l b. code_alike set size (label_at q l).sorts (m.holds (Label l)) (n.holds (Label l)) (h.labels l b)))
+    where
+      digits : (i : ℕ) → i < length q.parts.symbols → symbol_digit set size m i (symbol_at q.parts i) ≡ symbol_digit set size n i (symbol_at q.parts i)
+      digits i l = changing_alike (symbol_at q.parts i).fixed (shape_digit set size m i (symbol_at q.parts i).shape) (shape_digit set size n i (symbol_at q.parts i).shape)
+          (λ f. shape_alike m n i (symbol_at q.parts i).shape (λ sorts k. h.relations i sorts l f k) (λ sort k. h.constants i sort l f k))
+
+  -- projections can be numbered
+  pub numbering : IsWithin size set → Numbering q set size
+  numbering within = record { number = projection q set size; below = projection_below; same = projection_same within; one = projection_alike }
+
+-- what looks as it was saved has the projection of its copies
+pub looks_as_copied : (q : Problem) (m : Meaning) → LooksAsCopied q m
+looks_as_copied q m = (λ h. record { relations = h.relations; labels = h.labels; constants = h.constants }, λ h. record { relations = h.relations; labels = h.labels; constants = h.constants })

@@ -20,6 +20,7 @@ pub mod Ranges
 pub mod ReadingFits
 pub mod ReadingTruth
 pub mod Renaming
+pub mod Rows
 pub mod SameWords
 pub mod SampleLaws
 pub mod Scoped

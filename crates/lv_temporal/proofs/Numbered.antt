@@ -33,7 +33,7 @@ use Rattle.lv_temporal.proofs.Found.{catch-step, copy-catch, copy-constant_catch
 use Rattle.lv_temporal.proofs.Words.{no_witness_decl}
 use Rattle.lv_labels.specs.declared.which.Which.{Which}
 use Rattle.lv_labels.specs.declared.which.Which.TheVariants as W
-use Rattle.lv_labels.specs.Obligations.{BreaksStep, IsValid, formula_of, invariants_of, starts_from, steps_from, steps_of_move}
+use Rattle.lv_labels.specs.Obligations.{BreaksCatch, BreaksStep, IsValid, formula_of, invariants_of, starts_from, steps_from, steps_of_move}
 use Rattle.lv_temporal.proofs.Alike.{opening_agrees, opening_sound, range_same, state_truth}
 use Rattle.lv_temporal.proofs.Ranges.{over_reverse}
 use Rattle.lv_temporal.proofs.AlikeAfter.{elements_same, stepped_agrees, stepped_sound}
@@ -305,15 +305,22 @@ module _ (q : Problem) (fit : IsFit q) (there : AreSortsThere q) (witnesses : Ch
       returned = looks-tables h.returned;
     }
 
+  -- a structure as functions that breaks the catch has tables that break it
+  pub catch_tables : (m : Meaning) → IsStructureOf (catch_vocabulary q) m → BreaksCatch q m → BreaksCatch q (meaning (tables_of (catch_vocabulary q) m))
+  catch_tables m sound h = record {
+    axioms = sym (all_true_agrees (catch_vocabulary q) m (meaning (tables_of (catch_vocabulary q) m)) sound (agrees-tables_of (catch_vocabulary q) m) q.parts.axioms
+        (all_fit_more (state_vocabulary q) (catch_vocabulary q) (catch_extends_state q) q.parts.axioms [] axioms_fit)) ∙ h.axioms;
+    invariants = sym (all_true_agrees (catch_vocabulary q) m (meaning (tables_of (catch_vocabulary q) m)) sound (agrees-tables_of (catch_vocabulary q) m) invariants fit.invariants) ∙ h.invariants;
+    caught = caught-tables m sound h.caught;
+  }
+
+  pub catch_tables_sound : (m : Meaning) → IsStructureOf (catch_vocabulary q) m → IsSound (tables_of (catch_vocabulary q) m)
+  catch_tables_sound m sound = sound-tables_of (catch_vocabulary q) m (catch-proper q there) sound
+
   none_caught : IsValid q W.Catch → NoneCaught q
   none_caught valid m sound axioms kept caught =
-      valid (tables_of (catch_vocabulary q) m) (sound-tables_of (catch_vocabulary q) m (catch-proper q there) sound) (vocabulary-tables_of (catch_vocabulary q) m)
-      (record {
-        axioms = sym (all_true_agrees (catch_vocabulary q) m (meaning (tables_of (catch_vocabulary q) m)) sound (agrees-tables_of (catch_vocabulary q) m) q.parts.axioms
-            (all_fit_more (state_vocabulary q) (catch_vocabulary q) (catch_extends_state q) q.parts.axioms [] axioms_fit)) ∙ axioms;
-        invariants = sym (all_true_agrees (catch_vocabulary q) m (meaning (tables_of (catch_vocabulary q) m)) sound (agrees-tables_of (catch_vocabulary q) m) invariants fit.invariants) ∙ kept;
-        caught = caught-tables m sound caught;
-      })
+      valid (tables_of (catch_vocabulary q) m) (catch_tables_sound m sound) (vocabulary-tables_of (catch_vocabulary q) m)
+      (catch_tables m sound (record { axioms = axioms; invariants = kept; caught = caught }))
 
   -- valid starts and steps keep the invariants, in structures as functions too
   pub are_kept : All (IsValid q) (starts_from 0 q.parts.invariants) → All (IsValid q) (steps_from q.parts.invariants 0 q.parts.actions) → AreKept q

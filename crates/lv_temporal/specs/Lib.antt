@@ -1,3 +1,5 @@
+pub mod Projections
+pub mod Rows
 pub mod Samples
 pub mod Small
 pub mod TrueLabels

@@ -67,7 +67,8 @@ pub record IsWalk (q : Problem) (r : Run) (f s : ℕ) (w : ℕ → Meaning) : Ty
   pub kept : (i : ℕ) → f < i → i ≤ r.last → (sort : SortId) (x : ℕ) → is_kept (w i) sort x ≡ touched q r f sort x
   pub invariants : (i : ℕ) → i ≤ r.last → all_true_in (w i) (invariants_of q.parts) [] ≡ true
 
--- along each labelled run that begins with two rounds the monitor can freeze at the end of the first and save at the
--- end of the second
+-- Along each labelled run the monitor can freeze at f, if a first round ends there, and save at s, if a second one does. A
+-- round is asked for only where the run gets to its end: f or s past the run's last position means no freeze or no save.
 abbrev pub Walks : Problem → Type 0
-Walks q = (r : Run) → IsLabelledRun q r → (f s : ℕ) → f < s → s ≤ r.last → IsRound q r 0 f → IsRound q r f s → (w : ℕ → Meaning) × IsWalk q r f s w
+Walks q = (r : Run) → IsLabelledRun q r → (f s : ℕ) → f < s
+    → (f ≤ r.last → IsRound q r 0 f) → (s ≤ r.last → IsRound q r f s) → (w : ℕ → Meaning) × IsWalk q r f s w

@@ -2,10 +2,14 @@
 //!
 //! Each function here does nothing: it stands for the law that its contract states.
 ghost use Rattle.lv_formula.specs.declared.formula.Formula.TheVariants as make;
+ghost use Rattle.lv_formula.specs.declared.symbols.SortId.{SortId};
+ghost use Rattle.lv_formula.specs.Meaning.{Meaning};
+ghost use Rattle.lv_temporal.specs.Projections.{IsWithin, LooksAsCopied, Numbering, RunsAreWithin};
+ghost use Rattle.lv_temporal.specs.Rows.{AreRowsOfProblem};
 ghost use Rattle.lv_labels.specs.Labels.{labels_of, reading};
 ghost use Rattle.lv_labels.specs.Obligations.{AreValid, InvariantsFit, IsInductive, obligations_of};
 ghost use Rattle.lv_labels.specs.Positions.{Bounded};
-ghost use Rattle.lv_labels.specs.Problem.{problem_of};
+ghost use Rattle.lv_labels.specs.Problem.{Problem, problem_of};
 ghost use Rattle.lv_labels.specs.declared.moves.Move.TheVariants as M;
 ghost use Rattle.lv_labels.specs.declared.which.Which.TheVariants as W;
 ghost use Rattle.lv_system.specs.Fits.{fits_parts};
@@ -16,7 +20,7 @@ ghost use Rattle.lv_temporal.specs.Samples.{link_atom, link_label, links, node, 
 ghost use Rattle.lv_temporal.specs.Small.{IsBroken, small, small_loop, small_stem, unhelped};
 ghost use Rattle.lv_temporal.specs.TrueLabels.{TrueLabels};
 ghost use Rattle.lv_temporal.specs.Walk.{Walks};
-ghost use Rattle.std.specs.Prelude.{◌≡◌, ◌∷◌, [], false, true, ◌+◌, ◌*◌, length};
+ghost use Rattle.std.specs.Prelude.{◌≡◌, ℕ, Bool, ◌∷◌, [], false, true, ◌+◌, ◌*◌, length};
 
 /// A lasso run of a system that violates the property, unrolled to any length, with a witness chosen for each
 /// witness formula and with the true table of each label at each position, is a labelled run of the negated
@@ -41,11 +45,26 @@ pub fn a_run_that_violates()
     ensures violated { holds (lasso_of [] (without_links ∷ [])) (λ k. 0) links.property 0 [] ≡ false }
 {}
 
-/// Where the starts and the steps are valid, the monitor can walk along each labelled run that begins with two rounds,
-/// freeze at the end of the first and, where the run goes on, save at the end of the second; and the invariants hold at
-/// each position.
+/// The label table that is made for a system has the labels of its problem, and with the conditions of fairness its justice
+/// conditions.
+pub fn label_table()
+    ensures { (p : Parts) → AreRowsOfProblem p }
+{}
+
+/// Where the starts and the steps are valid, the monitor can walk along each labelled run: it freezes at the end of a first
+/// round and saves at the end of a second, as far as the run gets, and the invariants hold at each position.
 pub fn walk()
     ensures { (p : Parts) → fits_parts p ≡ true → InvariantsFit p → IsInductive p → Walks (problem_of p) }
+{}
+
+/// The projections of structures to a set of elements can be numbered: each has a number below the number of valuations of the
+/// set, and structures have one number exactly where they have one projection. On a labelled run the elements touched at a
+/// position, with the constants, are such a set. And a monitored structure looks as it was saved where its state and its copies
+/// have one projection to the kept elements.
+pub fn projections()
+    ensures numbering { (q : Problem) (set : SortId → ℕ → Bool) (size : SortId → ℕ) → IsWithin size set → Numbering q set size }
+    ensures within { (p : Parts) → fits_parts p ≡ true → InvariantsFit p → RunsAreWithin (problem_of p) }
+    ensures copies { (q : Problem) (m : Meaning) → LooksAsCopied q m }
 {}
 
 /// Where every obligation is valid, the property holds on each fair lasso run, of structures of any sizes; and no labelled

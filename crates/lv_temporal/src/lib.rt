@@ -1,5 +1,5 @@
-//! Laws of labelled runs, over the definitions of lv_labels: true labels, the walk of the monitor, and what valid
-//! obligations say of a system's runs.
+//! Laws of labelled runs, over the definitions of lv_labels: true labels, the walk of the monitor, the number of
+//! projections, what valid obligations say of a system's runs, and what the table of labels has to do with them.
 //!
 //! The crate holds no code. What lv_labels has is given out under the same names.
 #![tactic(auto)]
