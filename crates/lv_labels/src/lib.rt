@@ -2,9 +2,9 @@
 //!
 //! The labels are the temporal subformulas of which the tableau of Padon, Hoenicke, Losa, Podelski, Sagiv and Shoham
 //! (Reducing liveness to safety in first-order logic, POPL 2018) keeps the truth in each state. The code lists them and
-//! gives the readings; the code that makes sentences of them shares what closes a formula over tuples. Labelled runs, rounds, the monitored structure and what breaks an obligation are defined alone, and
-//! stand here beneath the laws on runs (lv_temporal) and the code that makes the obligations, so that neither rests on the
-//! other.
+//! gives the readings, and has what the makers of sentences share. Labelled runs, rounds, the monitored structure and
+//! what breaks an obligation are defined alone, and stand here beneath the laws on runs (lv_temporal) and the code that
+//! makes the obligations, so that neither rests on the other.
 #![tactic(auto)]
 
 mod build;
