@@ -31,7 +31,7 @@ SpelledHasWords = (p : Parts) (t : Tree) → SpellsSystem p t → invariants_hav
 abbrev pub ShownTextSpells : Type 0
 ShownTextSpells = (p : Parts) (t : Tree) → SpellsSystem p t → Spells (shown_text p) p
 
--- what `show_formula` asks of a formula: each symbol and each sort in it has a word
+-- each symbol and each sort in the formula has a word of at most 64 bytes
 abbrev pub CanBeShown : Parts → Formula → Type 0
 CanBeShown p f = has_words p (lifted f) ≡ true
 

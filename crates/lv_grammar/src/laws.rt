@@ -22,13 +22,13 @@ pub fn spelled_has_words()
     ensures { SpelledHasWords }
 {}
 
-/// Where the parts of a system fit and the symbols of its invariants have words, each of its formulas
-/// meets what `show_formula` asks.
+/// Where the parts of a system fit and the symbols of its invariants have words, so have the symbols and
+/// sorts of each of its formulas.
 pub fn fitting_can_be_shown()
     ensures { FittingCanBeShown }
 {}
 
-/// Where some tree spells a system, each of its formulas meets what `show_formula` asks.
+/// Where some tree spells a system, the symbols and sorts of each of its formulas have words.
 pub fn spelled_can_be_shown()
     ensures { SpelledCanBeShown }
 {}

@@ -1,3 +1,2 @@
-pub mod Labels
 pub mod Performing
 pub mod Structures

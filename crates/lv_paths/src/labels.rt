@@ -1,6 +1,4 @@
 //! Labels of a system that a text spells, the reading of its property, and what is shown of it.
-ghost use Rattle.std.specs.Prelude.{◌≡◌, IfOk};
-ghost use Rattle.lv_paths.specs.Labels.{same_once_frozen};
 
 use lv_formula::{Formula, Memory, SortId, Sym, Term, all, atom, implies, not, or, same};
 use lv_labels::{Label, labels_of, reading};
@@ -64,9 +62,7 @@ fn a_property_is_read_over_labels(rt: HostRuntime) -> Result<(), Fail> {
 }
 
 /// Once frozen, two variables are the same.
-fn same_once_frozen(alloc: Global) -> Result<Formula, Memory>
-    ensures { IfOk result (λ f. f ≡ same_once_frozen) }
-{
+fn same_once_frozen(alloc: Global) -> Result<Formula, Memory> {
     implies(
         alloc,
         atom(alloc, Sym::Frozen, &[])?,
@@ -75,7 +71,6 @@ fn same_once_frozen(alloc: Global) -> Result<Formula, Memory>
 }
 
 #[test]
-#[tactic(auto, using(crate::proofs::LabelLaws::same_has_words))]
 fn formulas_and_symbols_are_shown(rt: HostRuntime) -> Result<(), Fail> {
     let alloc = rt.alloc();
     let system = system(alloc)?;

@@ -7,8 +7,6 @@ use Rattle.lv_tree.specs.Reading.{IsFault}
 use Rattle.lv_formula.specs.declared.memory.Memory.{Memory}
 use Rattle.lv_system.specs.declared.parts.Parts.{Parts}
 use Rattle.lv_grammar.specs.Spelling.{Spells}
-use Rattle.lv_grammar.specs.HaveWords.{invariants_have_words}
-use Rattle.lv_grammar.proofs.SpokenParts.{spelled_has_words}
 use Rattle.lv_run.specs.declared.answer.Composed.{Composed}
 use Rattle.lv_run.specs.declared.mode.Mode.{Mode}
 use Rattle.lv_run.specs.declared.detail.Detail.{Detail}
@@ -25,10 +23,6 @@ own_fault (T.LongWord at) fault other is = is
 own_fault (T.Unclosed at) fault other is = is
 own_fault T.Empty fault other is = is
 own_fault T.Memory fault other is = absurd (other refl)
-
--- the symbols of a system that bytes spell have words
-pub has_words : (bytes : List ℕ) (p : Parts) → Spells bytes p → invariants_have_words p p.invariants ≡ true
-has_words bytes p s = spelled_has_words p s.tree s.system
 
 pub system_answered : (mode : Mode) (bytes : List ℕ) (p : Parts) (r : Result Composed Memory) → Spells bytes p
     → IfOk r (λ c. IsSystemAnswer mode p c.detail c.out.items) → IfOk r (λ c. IsAnswered mode bytes c.detail c.out.items)

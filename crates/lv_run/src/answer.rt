@@ -1,8 +1,7 @@
 //! The answer to a text, with what is written for it.
-ghost use Rattle.std.specs.Prelude.{◌≡◌, ◌≤◌, true, [], IfOk, length};
+ghost use Rattle.std.specs.Prelude.{◌≡◌, ◌≤◌, [], IfOk, length};
 ghost use Rattle.lv_system.specs.declared.parts.Parts.{Parts};
 ghost use Rattle.lv_grammar.specs.Spelling.{Spells};
-ghost use Rattle.lv_grammar.specs.HaveWords.{invariants_have_words};
 ghost use Rattle.lv_run.specs.Answers.{IsSystemAnswer, IsRefusal, IsAnswered};
 ghost use Rattle.lv_run.specs.Calls.{told_of};
 ghost use Rattle.lv_run.specs.ErrorTexts.{error_bytes};
@@ -90,7 +89,6 @@ fn prove_system(alloc: Global, system: &System) -> Result<Composed, Memory>
 
 /// The answer of `show` to a system.
 fn show_system(alloc: Global, system: &System) -> Result<Composed, Memory>
-    requires { invariants_have_words system.now system.now.invariants ≡ true }
     ensures { IfOk result (λ composed. IsSystemAnswer Mode.Show system.now composed.detail composed.out.items) }
 {
     let text = show(alloc, system)?;
@@ -117,7 +115,6 @@ fn refuse(alloc: Global, refusal: Refusal) -> Result<Composed, Memory>
 }
 
 /// The answer to a text of at most 1,048,576 bytes. The error is want of memory.
-#[tactic(auto, using(crate::proofs::AnswerLemmas::has_words))]
 pub(crate) fn answer(alloc: Global, mode: Mode, bytes: &[u8]) -> Result<Composed, Memory>
     requires { length bytes.now ≤ 1048576 }
     ensures { IfOk result (λ composed. IsAnswered mode bytes.now composed.detail composed.out.items) }

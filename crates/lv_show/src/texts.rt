@@ -1,14 +1,12 @@
 //! Texts of systems, formulas and symbols.
-ghost use Rattle.std.specs.Prelude.{◌≡◌, ◌++◌, true, List, codes, IfOk, OnOk};
+ghost use Rattle.std.specs.Prelude.{◌≡◌, ◌++◌, List, codes, IfOk, OnOk};
 ghost use Rattle.lv_tree.specs.declared.tree.Tree.{Tree};
 ghost use Rattle.lv_tree.specs.Writing.{written};
 ghost use Rattle.lv_labels.specs.Table.{table_labels};
 ghost use Rattle.lv_grammar.specs.Words.{symbol_word};
 ghost use Rattle.lv_grammar.specs.Spelling.{SpellsSystem, Spells};
 ghost use Rattle.lv_grammar.specs.ShownFormulas.{shown_formula};
-ghost use Rattle.lv_grammar.specs.HaveWords.{has_words, invariants_have_words};
 ghost use Rattle.lv_grammar.specs.ShownSystems.{shown_items};
-ghost use Rattle.lv_grammar.specs.Lifted.{lifted};
 ghost use Rattle.lv_grammar.specs.Layout.{in_lines, shown_text};
 
 use crate::formulas::formula;
@@ -45,11 +43,7 @@ fn push_lines(alloc: Global, text: &mut Vec<u8>, trees: &[Tree]) -> Result<(), M
 /// The text of a system: its name on the first line, then each item on a line of its own behind two
 /// spaces, `)` directly behind the last one, and a newline. Variables are `X0`, `X1` and so on, by the
 /// number of variables in whose scope they stand. The only error is want of memory.
-///
-/// The caller sees to it that each symbol of the invariants has a word. That is so of every system that
-/// some text spells.
 pub fn show(alloc: Global, system: &System) -> Result<List<u8>, Memory>
-    requires words { invariants_have_words system.now system.now.invariants ≡ true }
     ensures text { IfOk result (λ bytes. bytes ≡ shown_text system.now) }
 
     // Where some tree spells the system, the text does.
@@ -72,8 +66,8 @@ pub fn show(alloc: Global, system: &System) -> Result<List<u8>, Memory>
 /// A formula of the system on one line. It stands in the scope of `context` variables, of which the
 /// outermost is shown as `X0`. The only error is want of memory.
 ///
-/// The caller sees to it that the table is the system's, and that each symbol and sort of the formula has
-/// a word. However deep lists nest in the formula, the line is written.
+/// The caller sees to it that the table is the system's. However deep lists nest in the formula, and
+/// whatever symbols it has, the line is written.
 pub fn show_formula(
     alloc: Global,
     f: &Formula,
@@ -82,7 +76,6 @@ pub fn show_formula(
     context: u32,
 ) -> Result<List<u8>, Memory>
     requires table { table.now.labels ≡ table_labels system.now }
-    requires words { has_words system.now (lifted f.now) ≡ true }
     ensures { IfOk result (λ bytes. bytes ≡ written (shown_formula system.now f.now context)) }
 {
     let words = Words {

@@ -5,13 +5,14 @@ use Rattle.lv_labels.specs.declared.key.Key.{Key}
 use Rattle.lv_labels.specs.Labels.{labels_of}
 use Rattle.lv_labels.specs.Problem.{fair_condition, label_condition, label_justice, label_justices}
 use Rattle.lv_labels.specs.Table.{label_row, own_key}
-use Rattle.lv_temporal.specs.Rows.{AreRowsOfProblem, row_condition, row_justices}
+use Rattle.lv_labels.specs.Closing.{numbered}
+use Rattle.lv_labels.specs.Rows.{AreRowsOfProblem, row_condition, row_justice}
 
 conditions : (table own keys : List Key) → map row_condition (map (label_row table own) keys) ≡ map (label_condition table) keys
 conditions table own [] = refl
 conditions table own (k ∷ ks) = ap (λ cs. label_condition table k ∷ cs) (conditions table own ks)
 
-justices : (table own : List Key) (l : ℕ) (keys : List Key) → row_justices l (map (label_row table own) keys) ≡ label_justices table l keys
+justices : (table own : List Key) (l : ℕ) (keys : List Key) → numbered row_justice l (map (label_row table own) keys) ≡ label_justices table l keys
 justices table own l [] = refl
 justices table own l (k ∷ ks) = ap (λ cs. label_justice table l k ∷ cs) (justices table own (suc l) ks)
 
