@@ -136,7 +136,7 @@ visits_run = subst (λ r. IsLabelledRun r two_moves) (sym (problem-visits visits
 
 pub visits_rounds : AreRounds (problem_of visits) two_moves 0 (1 ∷ (2 ∷ []))
 visits_rounds = subst (λ r. AreRounds r two_moves 0 (1 ∷ (2 ∷ []))) (sym (problem-visits visits.invariants))
-    (omega arith, omega arith, first_round, omega arith, omega arith, second_round, tt)
+    (omega arith, omega arith, first_round, (omega arith, omega arith, second_round, tt))
 
 -- ---- a caught structure
 
