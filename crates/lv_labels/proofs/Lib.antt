@@ -7,7 +7,11 @@ pub mod LabelsAt
 pub mod Later
 pub mod Occurrences
 pub mod Once
+pub mod OverTuples
 pub mod Places
 pub mod Plain
+pub mod Ranges
+pub mod Rows
 pub mod Sameness
 pub mod Table
+pub mod TupleVariables

@@ -1,3 +1,4 @@
+pub mod Closing
 pub mod Labels
 pub mod Monitor
 pub mod Obligations
@@ -7,6 +8,7 @@ pub mod Problem
 pub mod Renaming
 pub mod Renamings
 pub mod Rounds
+pub mod Rows
 pub mod Runs
 pub mod Sameness
 pub mod Table

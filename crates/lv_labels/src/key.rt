@@ -4,6 +4,7 @@ ghost use Rattle.lv_formula.specs.Symbols.{sorts_eq};
 ghost use Rattle.lv_labels.specs.Sameness.{temporal_eq};
 ghost use Rattle.lv_labels.specs.Labels.{key_eq};
 
+use crate::sharing::copied;
 use lv_formula::{List, Memory, SortId, Temporal};
 use std::alloc::Global;
 
@@ -60,13 +61,4 @@ fn are_same_sorts(a: &[SortId], b: &[SortId]) -> bool
         }
     }
     true
-}
-
-/// A list of the same sorts.
-pub(crate) fn copied(alloc: Global, sorts: &[SortId]) -> Result<List<SortId>, Memory>
-    ensures { IfOk result (λ copy. copy ≡ sorts.now) }
-{
-    let mut copy = Vec::new(alloc);
-    copy.extend_from_slice(sorts)?;
-    Ok(List::from_vec(copy))
 }

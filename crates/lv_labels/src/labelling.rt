@@ -4,10 +4,11 @@ ghost use Rattle.lv_labels.specs.Labels.{key_eq, keys_of_labels, keys_of_witness
 ghost use Rattle.lv_labels.specs.Once.{each_once};
 ghost use Rattle.lv_labels.specs.Table.{label_row, name_among, own_key, table_labels};
 
-use crate::key::{Key, copied};
+use crate::key::Key;
 use crate::known::{KnownKeys, place};
 use crate::listing::{keys_of, push_keys};
 use crate::readings::read;
+use crate::sharing::copied;
 use lv_formula::{Formula, List, Memory, Scope, SortId, Temporal};
 use lv_system::{LabelDecl, Parts, System, WitnessDecl};
 use std::alloc::Global;

@@ -4,6 +4,7 @@ ghost use Rattle.lv_labels.specs.Renaming.{renamed, renamed_all, renamed_term, r
 ghost use Rattle.lv_labels.specs.Renamings.{renaming_of};
 
 use crate::build::{all, always, any, eventually, iff, implies, not};
+use crate::sharing::number;
 use crate::variables::place;
 use lv_formula::{List, Memory, Rc, Temporal, Term, Terms};
 use std::alloc::Global;
@@ -46,15 +47,6 @@ fn renumbered(variables: &[u32], v: u32) -> Result<u32, Memory>
     } else {
         number(variables.len() + v as usize)
     }
-}
-
-fn number(n: usize) -> Result<u32, Memory>
-    ensures { IfOk result (λ m. m ≡ n) }
-{
-    if n > u32::MAX as usize {
-        return Err(Memory);
-    }
-    Ok(n as u32)
 }
 
 /// The formula with each free variable renamed. The error is want of memory.

@@ -3,6 +3,7 @@ use Rattle.std.specs.Prelude.{◌≡◌, ◌⊎◌, ℕ, ◌<◌, ◌≤◌, Lis
 use Rattle.std.specs.declared.string.String.{String}
 use Rattle.std.specs.declared.alloc.Global.{Global}
 use Rattle.std.specs.Io.KnownBytes.{IsAtEnd}
+use Rattle.lv_edge.specs.Causes.{Rose}
 use Rattle.lv_edge.specs.Streams.{Grows, GrowsByPart, LosesAtMost}
 use Rattle.lv_system.specs.declared.parts.Parts.{Parts}
 use Rattle.lv_grammar.specs.Spelling.{Spells}
@@ -99,11 +100,13 @@ IsDelivered composed answered on-out on-err out out' err err' =
     ((answered ≡ composed) × Grows out out' on-out × Grows err err' on-err)
     ⊎ ((answered ≡ D.WriteFault) × ((GrowsByPart out out' on-out × (err' ≡ err)) ⊎ (Grows out out' on-out × GrowsByPart err err' on-err)))
 
--- an answer was composed, and its texts were written as far as the sinks took them
-pub record Concludes (words : List (String Global)) (left : Option (List ℕ)) (answered : Detail) (out out' err err' : Option (List ℕ)) : Type 0 where
+-- An answer was composed, and its texts were written as far as the sinks took them. A read fault is composed only where
+-- the source's count of faults rose.
+pub record Concludes (words : List (String Global)) (left : Option (List ℕ)) (before now : ℕ) (answered : Detail) (out out' err err' : Option (List ℕ)) : Type 0 where
   pub composed : Detail
   pub on-out : List ℕ
   pub texts : IsComposed words left composed on-out
+  pub rose : composed ≡ D.ReadFault → Rose before now
   pub delivered : IsDelivered composed answered on-out (told_of composed) out out' err err'
 
 -- ---- why an answer comes

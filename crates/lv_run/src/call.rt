@@ -115,7 +115,7 @@ pub fn run<S: Source, O: Sink, E: Sink>(
 
     // Each answer has its cause, and its text is written.
     ensures reason { HasReason words.now (S.left source.old) result.detail }
-    ensures texts { Concludes words.now (S.left source.old) result.detail (O.written out.old) (O.written out.new) (E.written err.old) (E.written err.new) }
+    ensures texts { Concludes words.now (S.left source.old) (S.faults source.old) (S.faults source.new) result.detail (O.written out.old) (O.written out.new) (E.written err.old) (E.written err.new) }
     ensures status { result.status ≡ status_of result.detail }
 
     // What is left of the text. Where the command doesn't take the words nothing was read, whatever the answer.

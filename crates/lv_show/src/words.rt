@@ -6,7 +6,7 @@ ghost use Rattle.lv_show.specs.Tables.{IsTable, named_by, declaration_in};
 use itoa::Buffer;
 use lv_formula::{Memory, SortId, Sym};
 use lv_labels::Label;
-use lv_system::{HasName, Parts};
+use lv_system::{HasName, LabelDecl, Parts};
 use lv_tree::{List, Text};
 use std::alloc::Global;
 

@@ -29,7 +29,7 @@ use Rattle.lv_labels.specs.Vocabularies.{catch_vocabulary, step_vocabulary}
 use Rattle.lv_temporal.proofs.Differ.{AreSortsThere}
 use Rattle.lv_temporal.proofs.Found.{IsConstantWord, IsRelationWord, catch-constant_found, catch-constant_step, catch-found, catch-step, copy-catch, copy-constant_catch, copy_label-catch, due-catch, frozen-catch, kept-catch, label-state, next-step, own-constant_state, own-state, param-step, saved-catch, touched-catch, witness-state}
 use Rattle.lv_temporal.proofs.Alike.{and_same, cond_also, cond_same, over_agrees, own_constant, range_same, single_agrees, single_range, some_same, state_truth, witness_value}
-use Rattle.lv_temporal.proofs.Ranges.{over_append, over_reverse}
+use Rattle.lv_labels.proofs.Ranges.{over_append, over_reverse}
 use Rattle.lv_temporal.proofs.FitsMore.{fits_more}
 use Rattle.lv_temporal.proofs.Extends.{state_extends_own, step_extends_state}
 use Rattle.lv_temporal.proofs.ClosedFits.{IsFit, UpdatesFit}

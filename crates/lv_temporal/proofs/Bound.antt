@@ -18,7 +18,7 @@ use Rattle.lv_labels.specs.Positions.{Bounded, run_of}
 use Rattle.lv_labels.specs.Problem.{Problem, choice_at, justice_at, label_at, problem_of}
 use Rattle.lv_labels.specs.Runs.{IsLabelledRun, Run, is_constant_value, is_denoted, is_finite, is_passed, is_witness_value, touched}
 use Rattle.lv_labels.specs.Rounds.{AreRounds, IsBounded, IsRound, valuations}
-use Rattle.lv_temporal.proofs.Ranges.{over_same}
+use Rattle.lv_labels.proofs.Ranges.{over_same}
 use Rattle.lv_labels.proofs.Sameness.{sort_true}
 use Rattle.lv_temporal.proofs.Touched.{passed_in}
 use Rattle.lv_labels.specs.declared.moves.Move.{Move}

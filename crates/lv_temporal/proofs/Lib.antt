@@ -16,11 +16,9 @@ pub mod Numbered
 pub mod Order
 pub mod OwnTruth
 pub mod ProblemFits
-pub mod Ranges
 pub mod ReadingFits
 pub mod ReadingTruth
 pub mod Renaming
-pub mod Rows
 pub mod SameWords
 pub mod SampleLaws
 pub mod Scoped

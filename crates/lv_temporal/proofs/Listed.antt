@@ -17,7 +17,7 @@ use Rattle.lv_labels.specs.Rounds.{IsRound}
 use Rattle.lv_labels.specs.Runs.{IsLabelledRun, IsStart, IsState, LabelEquation, Run, is_denoted, is_finite, is_passed, touched}
 use Rattle.lv_temporal.specs.TrueLabels.{TrueLabels, chosen_witnesses, listed, position_of, position_on, unrolled}
 use Rattle.lv_formula.proofs.Below.{any_below_same}
-use Rattle.lv_temporal.proofs.Ranges.{over_same}
+use Rattle.lv_labels.proofs.Ranges.{over_same}
 use Rattle.lv_temporal.proofs.ReadingTruth.{shown}
 use Rattle.lv_temporal.proofs.Scoped.{IsScoped}
 use Rattle.lv_temporal.proofs.Turns.{turn_round}

@@ -15,7 +15,7 @@ use Rattle.lv_labels.specs.Rounds.{AreRounds, IsBounded, IsRound, valuations}
 use Rattle.lv_labels.specs.Runs.{IsLabelledRun, Run, is_denoted, is_finite, is_passed, touched}
 use Rattle.lv_temporal.specs.TrueLabels.{TrueLabels, chosen, chosen_witnesses, position_of, position_on, unrolled}
 use Rattle.lv_temporal.proofs.Listed.{get_listed, length-listed}
-use Rattle.lv_temporal.proofs.Ranges.{over_more}
+use Rattle.lv_labels.proofs.Ranges.{over_more}
 
 -- what is touched at first is touched later
 pub touched_later : (q : Problem) (r : Run) (i : ℕ) (s : SortId) (x : ℕ) → touched q r 0 s x ≡ true → touched q r i s x ≡ true

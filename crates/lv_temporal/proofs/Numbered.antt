@@ -35,7 +35,7 @@ use Rattle.lv_labels.specs.declared.which.Which.{Which}
 use Rattle.lv_labels.specs.declared.which.Which.TheVariants as W
 use Rattle.lv_labels.specs.Obligations.{BreaksCatch, BreaksStep, IsValid, formula_of, invariants_of, starts_from, steps_from, steps_of_move}
 use Rattle.lv_temporal.proofs.Alike.{opening_agrees, opening_sound, range_same, state_truth}
-use Rattle.lv_temporal.proofs.Ranges.{over_reverse}
+use Rattle.lv_labels.proofs.Ranges.{over_reverse}
 use Rattle.lv_temporal.proofs.AlikeAfter.{elements_same, stepped_agrees, stepped_sound}
 use Rattle.lv_temporal.proofs.FitsMore.{all_fit_more, fits_more}
 use Rattle.lv_temporal.proofs.Extends.{catch_extends_state, extends_self, state_extends_fixed, state_extends_own, step_extends_catch, step_extends_state}

@@ -19,7 +19,7 @@ use Rattle.lv_system.specs.declared.parts.ActionUpdate.TheVariants.{Relation, Co
 use Rattle.lv_system.specs.Step.{set_holds, set_value, sorts_at, sorts_or_none, symbol_at}
 use Rattle.lv_system.specs.TemporalTruth.{Lasso}
 use Rattle.lv_system.specs.Vocabularies.{own_vocabulary, relation_sorts}
-use Rattle.lv_temporal.proofs.Ranges.{over_append, over_reverse}
+use Rattle.lv_labels.proofs.Ranges.{over_append, over_reverse}
 use Rattle.lv_temporal.proofs.ReadingTruth.{shown}
 use Rattle.lv_temporal.proofs.Scoped.{UpdateFits}
 use Rattle.lv_temporal.proofs.Vocabularies.{label_apart, no_own_constant, no_own_relation, witness_apart}

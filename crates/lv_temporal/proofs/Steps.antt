@@ -11,7 +11,7 @@ use Rattle.lv_system.specs.declared.parts.ActionUpdate.{ActionUpdate}
 use Rattle.lv_system.specs.declared.parts.ActionUpdate.TheVariants.{Relation, Constant}
 use Rattle.lv_system.specs.Step.{set_holds, set_value, sorts_at, symbol_at}
 use Rattle.lv_system.specs.Vocabularies.{own_vocabulary}
-use Rattle.lv_temporal.proofs.Ranges.{over_same}
+use Rattle.lv_labels.proofs.Ranges.{over_same}
 use Rattle.lv_labels.specs.Monitor.{elements_in, params_in}
 use Rattle.lv_temporal.specs.Walk.{beside}
 use Rattle.lv_temporal.proofs.Agreement.{truth_same, value_same}

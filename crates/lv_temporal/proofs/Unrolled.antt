@@ -25,7 +25,7 @@ use Rattle.lv_labels.proofs.Later.{later_step, next_bound}
 use Rattle.lv_temporal.proofs.FitsMore.{all_fit_more, fixed_extends}
 use Rattle.lv_labels.proofs.HoldsAt.{holds-Always}
 use Rattle.lv_temporal.proofs.OwnTruth.{own_agrees, own_element, own_holds, own_truth, own_truths}
-use Rattle.lv_temporal.proofs.Ranges.{over_reverse, over_same}
+use Rattle.lv_labels.proofs.Ranges.{over_reverse, over_same}
 use Rattle.lv_temporal.proofs.ReadingTruth.{reading_true, shown}
 use Rattle.lv_temporal.proofs.Scoped.{IsScoped}
 use Rattle.lv_temporal.proofs.TableFits.{all_witnesses, key_inside, key_stands, property_inside, witness_inside}

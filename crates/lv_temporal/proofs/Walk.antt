@@ -19,7 +19,7 @@ use Rattle.lv_system.specs.Vocabularies.{constant_sort, fixed_vocabulary, own_vo
 use Rattle.lv_labels.specs.Problem.{Problem, choice_at, justice_at, label_at, state_vocabulary}
 use Rattle.lv_labels.specs.Runs.{IsLabelledRun, LabelEquation, Run, is_constant, is_constant_value, is_denoted, is_finite, is_passed, is_witness_value, touched}
 use Rattle.lv_labels.specs.Rounds.{IsRound}
-use Rattle.lv_temporal.proofs.Ranges.{over_length, over_same}
+use Rattle.lv_labels.proofs.Ranges.{over_length, over_same}
 use Rattle.lv_temporal.proofs.Scoped.{is_sort_true}
 use Rattle.lv_temporal.proofs.Touched.{passed_in}
 use Rattle.lv_labels.specs.declared.moves.Move.{Move}

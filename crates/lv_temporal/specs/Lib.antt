@@ -1,5 +1,4 @@
 pub mod Projections
-pub mod Rows
 pub mod Samples
 pub mod Small
 pub mod TrueLabels

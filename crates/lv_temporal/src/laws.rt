@@ -5,7 +5,7 @@ ghost use Rattle.lv_formula.specs.declared.formula.Formula.TheVariants as make;
 ghost use Rattle.lv_formula.specs.declared.symbols.SortId.{SortId};
 ghost use Rattle.lv_formula.specs.Meaning.{Meaning};
 ghost use Rattle.lv_temporal.specs.Projections.{IsWithin, LooksAsCopied, Numbering, RunsAreWithin};
-ghost use Rattle.lv_temporal.specs.Rows.{AreRowsOfProblem};
+ghost use Rattle.lv_labels.specs.Rows.{AreRowsOfProblem};
 ghost use Rattle.lv_labels.specs.Labels.{labels_of, reading};
 ghost use Rattle.lv_labels.specs.Obligations.{AreValid, InvariantsFit, IsInductive, obligations_of};
 ghost use Rattle.lv_labels.specs.Positions.{Bounded};

@@ -7,6 +7,7 @@
 pub mod laws;
 
 pub use lv_labels::{
-    Key, KnownKeys, Label, LabelTable, Move, Which, free_variables, key_of, keys_of, labels_of,
-    plain_of, reading,
+    Justice, Key, KnownKeys, Label, LabelTable, Move, Which, copied, for_all, free_variables,
+    key_of, keys_of, labels_of, number, plain_of, push_shared, push_variables, reading,
+    tuple_variables,
 };

@@ -1,0 +1,31 @@
+//! Answers cases. A case is a line of standard input, and its answer is the line of standard output with the same
+//! number. An empty line, or one that begins with `#`, is printed as it is.
+//!
+//! ```text
+//! run prove | (system a (property p))           a call with these words: its status, and what it writes to out and err
+//! run show | (system a) | piece=3 out-fails=2   the same over streams that behave so
+//! read | (system a)                             `system`, or the first fault of the text
+//! tree | (a (b))                                the line of the tree, and the places of its brackets and words
+//! ```
+//!
+//! The words of a call stand behind one space each. How a text and a word are written is told in `spelling`, how
+//! streams behave in `streams`.
+#![tactic(auto)]
+
+mod answers;
+mod spelling;
+mod streams;
+
+use answers::answer;
+use std::io::{BufRead, BufReader, BufWriter, Write};
+
+fn main(rt: HostRuntime) -> anyhow::Result<()> {
+    let mut out = BufWriter::new(rt.alloc(), rt.stdout())?;
+    for line in BufReader::new(rt.alloc(), rt.stdin())?.lines(rt.alloc()) {
+        let line = line?;
+        let answer = answer(rt.alloc(), line.as_str())?;
+        writeln!(out, "{answer}")?;
+    }
+    out.flush()?;
+    Ok(())
+}
