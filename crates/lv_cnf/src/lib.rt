@@ -24,6 +24,3 @@ pub use list::List;
 pub use literal::Lit;
 pub use memory::Memory;
 pub use prop::{Prop, atoms_below, variables};
-
-#[cfg(test)]
-mod tests;
