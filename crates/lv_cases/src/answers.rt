@@ -1,9 +1,11 @@
 //! What is answered to each kind of case.
+use crate::sentences::sentences;
 use crate::spelling::bytes_of;
 use crate::streams::Streams;
 use anyhow::{Context, Result, bail, ensure};
 use lv_run::run;
 use lv_syntax::{ReadText, read_system};
+use lv_system::System;
 use lv_tree::{MAX_BYTES, Tree, read_tree, write_tree};
 use std::alloc::Global;
 
@@ -18,6 +20,9 @@ pub fn answer(alloc: Global, line: &str) -> Result<String> {
     match call {
         "read" => read(alloc, text.as_slice()),
         "tree" => tree(alloc, text.as_slice()),
+        "equations" | "justice" | "start" | "witnesses" => {
+            sentences(alloc, call, &system(alloc, text.as_slice())?)
+        }
         _ => called(alloc, call, text, Streams::of(settings)?),
     }
 }
@@ -43,6 +48,16 @@ fn words_of(alloc: Global, call: &str) -> Result<Vec<String>> {
         words.push(String::from_utf8(bytes_of(alloc, piece)?)?)?;
     }
     Ok(words)
+}
+
+/// The system that a text spells.
+fn system(alloc: Global, text: &[u8]) -> Result<System> {
+    ensure!(text.len() <= MAX_BYTES, "a text too long");
+    let tree = read_tree(alloc, text)?;
+    match read_system(alloc, &tree) {
+        Ok(system) => Ok(system),
+        Err(_) => bail!("no system"),
+    }
 }
 
 /// What a text spells: `system`, or its first fault.

@@ -6,6 +6,8 @@
 //! run show | (system a) | piece=3 out-fails=2   the same over streams that behave so
 //! read | (system a)                             `system`, or the first fault of the text
 //! tree | (a (b))                                the line of the tree, and the places of its brackets and words
+//! justice | (system a (property p))             the justice conditions of the system, one behind the other; and so
+//!                                               `equations`, `start` and `witnesses`
 //! ```
 //!
 //! The words of a call stand behind one space each. How a text and a word are written is told in `spelling`, how
@@ -13,6 +15,7 @@
 #![tactic(auto)]
 
 mod answers;
+mod sentences;
 mod spelling;
 mod streams;
 

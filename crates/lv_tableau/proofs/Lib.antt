@@ -1,0 +1,2 @@
+pub mod JusticeLaw
+pub mod SentencesLaw
