@@ -4,3 +4,4 @@ pub mod Propagation
 pub mod Logs
 pub mod Nodes
 pub mod Laws
+pub mod Packed

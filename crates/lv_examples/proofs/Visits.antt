@@ -1,5 +1,5 @@
 -- All obligations of the sample system over a sort are valid.
-use Rattle.std.proofs.Common.{◌≡◌, ℕ, zero, suc, ◌<◌, Bool, true, false, not, ◌&&◌, ◌||◌, eqb, ltb, List, [], ◌∷◌, reverse, refl, sym, ap, subst, ◌∙◌, arith, eq-eqb, lt-ltb}
+use Rattle.std.proofs.Common.{◌≡◌, ℕ, zero, suc, Bool, true, false, not, ◌&&◌, ◌||◌, eqb, ltb, List, [], ◌∷◌, reverse, refl, sym, ap, subst, ◌∙◌, arith, eq-eqb, lt-ltb}
 use Rattle.std.specs.List.{All}
 use Rattle.std.proofs.lemmas.Bool.{and_from, and_parts, false≢true, or_left, or_right}
 use Rattle.std.proofs.lemmas.List.Elements.{All-cons, All-nil, All-weaker}
@@ -14,12 +14,12 @@ use Rattle.lv_formula.specs.Truth.{all_below, all_true_in, any_below, truth_in}
 use Rattle.lv_formula.proofs.Below.{any_below-holds}
 use Rattle.lv_system.specs.declared.parts.Action.{Action}
 use Rattle.lv_system.specs.Step.{action_at}
-use Rattle.lv_labels.specs.Problem.{Problem, choice_at, problem_of, state_vocabulary}
+use Rattle.lv_labels.specs.Problem.{Problem, choice_at, problem_of}
 use Rattle.lv_labels.specs.Runs.{IsStart, LabelEquation, is_constant_value, is_witness_value}
 use Rattle.lv_labels.specs.declared.moves.Move.{Move}
 use Rattle.lv_labels.specs.declared.moves.Move.TheVariants.{Stay, Freeze, Save}
 use Rattle.lv_labels.specs.Monitor.{MayMove, NoneDue, is_freeze, is_touched, is_touched_first, stepped}
-use Rattle.lv_labels.specs.Vocabularies.{catch_vocabulary, step_vocabulary}
+use Rattle.lv_labels.specs.Vocabularies.{step_vocabulary}
 use Rattle.lv_formula.specs.Tuples.{over}
 use Rattle.lv_labels.specs.declared.which.Which.{Which}
 use Rattle.lv_labels.specs.declared.which.Which.TheVariants as W

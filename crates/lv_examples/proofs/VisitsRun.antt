@@ -1,5 +1,5 @@
 -- The sample system over a sort has a labelled run with a round after a freeze; with fewer invariants a structure is caught.
-use Rattle.std.proofs.Common.{◌≡◌, ℕ, zero, suc, ◌<◌, ◌≤◌, Bool, true, false, not, ◌&&◌, List, [], ◌∷◌, get_or, reverse, refl, sym, ap, ap₂, subst, eqb, ◌∙◌, arith, ltb-true}
+use Rattle.std.proofs.Common.{◌≡◌, ℕ, zero, suc, ◌<◌, ◌≤◌, true, false, not, ◌&&◌, List, [], ◌∷◌, get_or, reverse, refl, sym, ap, ap₂, subst, eqb, ◌∙◌, arith, ltb-true}
 use Rattle.std.proofs.Math.Bool.{and-false}
 use Rattle.std.proofs.lemmas.Bool.{and_parts, false≢true}
 use Rattle.std.proofs.lemmas.List.Elements.{All-cons, All-nil}
@@ -12,7 +12,7 @@ use Rattle.lv_struct.proofs.Tabulate.{constant_found, tables_of, vocabulary-tabl
 use Rattle.lv_formula.specs.Tuples.{over}
 use Rattle.lv_formula.specs.Truth.{Env, truth_in}
 use Rattle.lv_system.specs.Step.{IsAllowed, action_at}
-use Rattle.lv_labels.specs.Problem.{Problem, choice_at, problem_of, state_vocabulary}
+use Rattle.lv_labels.specs.Problem.{Problem, choice_at, problem_of}
 use Rattle.lv_labels.specs.Rounds.{AreRounds, IsRound}
 use Rattle.lv_labels.specs.Runs.{IsLabelledRun, IsStart, IsState, LabelEquation, touched}
 use Rattle.lv_labels.specs.Monitor.{IsCaught}
@@ -20,7 +20,7 @@ use Rattle.lv_labels.specs.Vocabularies.{catch_vocabulary}
 use Rattle.lv_temporal.proofs.Differ.{AreSortsThere}
 use Rattle.lv_system.proofs.FitsFacts.{fitting}
 use Rattle.lv_labels.specs.declared.which.Which.TheVariants as W
-use Rattle.lv_labels.specs.Obligations.{Breaks, BreaksCatch}
+use Rattle.lv_labels.specs.Obligations.{BreaksCatch}
 use Rattle.lv_temporal.specs.Small.{IsBroken}
 use Rattle.lv_temporal.specs.Samples.{node}
 use Rattle.lv_examples.specs.Visits.{after_moves, is_at, moved_outside, seen, two_moves, unguarded, unseen, visits}
@@ -136,7 +136,7 @@ visits_run = subst (λ r. IsLabelledRun r two_moves) (sym (problem-visits visits
 
 pub visits_rounds : AreRounds (problem_of visits) two_moves 0 (1 ∷ (2 ∷ []))
 visits_rounds = subst (λ r. AreRounds r two_moves 0 (1 ∷ (2 ∷ []))) (sym (problem-visits visits.invariants))
-    (omega arith, omega arith, first_round, omega arith, omega arith, second_round, tt)
+    (omega arith, omega arith, first_round, (omega arith, omega arith, second_round, tt))
 
 -- ---- a caught structure
 

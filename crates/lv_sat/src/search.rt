@@ -1,52 +1,24 @@
-ghost use Rattle.std.specs.Prelude.{◌≡◌, ◌++◌, ◌∷◌, [], ◌<◌, IfOk, OnOk, map};
-ghost use Rattle.std.specs.Prelude.{length, ◌+◌, ◌-◌, ◌^◌, take, Some, None, slice_set, replicate, false, IsTrue, ◌↔◌};
-ghost use Rattle.std.specs.List.{All};
-ghost use Rattle.lv_cnf.specs.Literals.{negated, InRange};
-ghost use Rattle.lv_sat.specs.Values.{keeps, sign, FreeIs};
-ghost use Rattle.lv_sat.specs.Pass.{EndsIn};
-ghost use Rattle.lv_sat.specs.Steps.{Decides, Learns};
+//! A search: the clauses under propagation, given ones and learned ones, and the log of those learned. No consistent set of
+//! literals tells the clauses under propagation from the given ones and the log: it leaves in each clause of the one a
+//! literal that holds or two that are undecided exactly where it does so in the other. Each clause of the log was new to
+//! propagation when it was learned.
 
-use crate::propagation::propagate;
-use crate::values::Held;
-use lv_cnf::{Assignment, Clause, List, Lit, Memory};
+ghost use Rattle.std.specs.Prelude.{◌≡◌, ◌<◌, ◌≤◌, ◌+◌, [], length, map, IfOk, OnOk, IsTrue, ◌↔◌};
+ghost use Rattle.lv_watch.specs.Watching.{IsWatching};
+ghost use Rattle.lv_propagate.specs.Potential.{squares};
+ghost use Rattle.lv_propagate.specs.State.{IsState, IsFresh, IsConflict};
+ghost use Rattle.lv_sat.specs.Search.{sign, FreeIs, Learns};
+
+use crate::analysis::analyse;
+use crate::solver::{Ending, Solved};
+use lv_cnf::{Assignment, Clause, List, Memory, Steps};
+use lv_propagate::State;
+use lv_watch::Assigned;
 use std::alloc::{AllocError, Global};
+use std::sync::ledger::Ledger;
 
-/// The value, unless it rests on that many decisions or more.
-fn kept(value: Option<Held>, level: usize) -> Option<Held>
-    ensures { result ≡ keeps level value }
-{
-    match value {
-        Some(held) if held.level < level => Some(held),
-        _ => None,
-    }
-}
-
-/// Takes back the values that rest on that many decisions or more.
-fn take_back(values: &mut [Option<Held>], level: usize)
-    ensures { values.new ≡ map (keeps level) values.old }
-{
-    for value in values.iter_mut() {
-        *value = kept(*value, level);
-    }
-}
-
-/// The negations of the literals.
-fn negations(alloc: Global, lits: &[Lit]) -> Result<Vec<Lit>, AllocError>
-    ensures { IfOk result (λ v. v.items ≡ map negated lits.now) }
-{
-    lits.iter().map(|lit| lit.negated()).collect(alloc)
-}
-
-/// The clause that says that one of the decisions is wrong.
-fn learned(alloc: Global, decisions: &[Lit]) -> Result<Clause, Memory>
-    ensures { IfOk result (λ clause. clause ≡ map negated decisions.now) }
-{
-    let lits = negations(alloc, decisions)?;
-    Clause::of(alloc, lits.as_slice())
-}
-
-/// The first variable with no value.
-pub fn free_variable(values: &[Option<Held>]) -> Option<usize>
+/// The first variable with no value: the one that is decided next.
+pub fn free_variable(values: &[Option<Assigned>]) -> Option<usize>
     ensures { FreeIs values.now result }
 {
     for (i, value) in values.iter().enumerate() {
@@ -58,50 +30,51 @@ pub fn free_variable(values: &[Option<Held>]) -> Option<usize>
 }
 
 /// The sign of each value; a variable with no value counts as false.
-fn signs_of(alloc: Global, values: &[Option<Held>]) -> Result<Vec<bool>, AllocError>
+fn signs_of(alloc: Global, values: &[Option<Assigned>]) -> Result<Vec<bool>, AllocError>
     ensures { IfOk result (λ v. v.items ≡ map sign values.now) }
 {
     values
         .iter()
-        .map(|value| matches!(value, Some(Held { positive: true, .. })))
+        .map(|value| matches!(value, Some(Assigned { positive: true, .. })))
         .collect(alloc)
 }
 
 /// The sign of each value, as an assignment.
-pub fn signs(alloc: Global, values: &[Option<Held>]) -> Result<Assignment, Memory>
+pub fn signs(alloc: Global, values: &[Option<Assigned>]) -> Result<Assignment, Memory>
     ensures { IfOk result (λ v. v ≡ map sign values.now) }
 {
     Ok(List::from_vec(signs_of(alloc, values)?))
 }
 
-/// The values of the variables, the decisions that they rest on, and the clauses learned so far.
+/// The clauses under propagation, and the clauses learned so far.
 #[derive(Drop)]
 pub struct Search {
-    pub values: Vec<Option<Held>>,
-    pub decisions: Vec<Lit>,
+    /// The clauses under propagation.
+    pub state: State,
+    /// The clauses learned so far, in order.
     pub log: Vec<Clause>,
 }
 
 impl Search {
-    /// No value, no decision and nothing learned yet.
+    /// No clause, no value, nothing learned yet.
     pub fn new(alloc: Global, vars: usize) -> Result<Search, Memory>
-        ensures values { IfOk result (λ s. s.values.items ≡ replicate vars None) }
-        ensures decisions { IfOk result (λ s. s.decisions.items ≡ []) }
+        ensures state { IfOk result (λ s. IsState s.state) }
+        ensures fresh { IfOk result (λ s. IsFresh s.state) }
+        ensures none { IfOk result (λ s. s.state.packed ≡ []) }
+        ensures size { IfOk result (λ s. length s.state.trail.values.items ≡ vars) }
         ensures log { IfOk result (λ s. s.log.items ≡ []) }
     {
-        let none: Option<Held> = None;
         Ok(Search {
-            values: Vec::from_elem(alloc, none, vars)?,
-            decisions: Vec::new(alloc),
+            state: State::new(alloc, vars)?,
             log: Vec::new(alloc),
         })
     }
 
     /// Whether some decision stands.
     pub fn has_decided(&self) -> bool
-        ensures { IsTrue result ↔ (0 < length self.now.decisions.items) }
+        ensures { IsTrue result ↔ (0 < length self.now.state.trail.starts.items) }
     {
-        !self.decisions.is_empty()
+        !self.state.trail.starts.is_empty()
     }
 
     /// Whether as many clauses are learned as the budget allows.
@@ -111,47 +84,43 @@ impl Search {
         self.log.len() == budget as usize
     }
 
-    /// Propagates units until nothing is left; says whether some clause came out false.
-    pub fn propagate(&mut self, clauses: &[Clause]) -> bool
-        requires clauses { All (InRange (length self.old.values.items)) clauses.now }
-        requires log { All (InRange (length self.old.values.items)) self.old.log.items }
-        ensures ends { EndsIn (clauses.now ++ self.old.log.items) (length self.old.decisions.items) self.old.values.items self.new.values.items result }
-        ensures decisions { self.new.decisions.items ≡ self.old.decisions.items }
-        ensures log { self.new.log.items ≡ self.old.log.items }
+    /// The end of the search.
+    pub fn ended(self, ending: Ending) -> Solved
+        ensures ending { result.ending ≡ ending }
+        ensures log { result.log ≡ self.log.items }
     {
-        propagate(
-            clauses,
-            self.log.as_slice(),
-            self.values.as_mut_slice(),
-            self.decisions.len(),
-        )
+        Solved {
+            ending,
+            log: List::from_vec(self.log),
+        }
     }
 
-    /// Decides that a variable is false.
-    pub fn decide(&mut self, var: usize) -> Result<(), Memory>
-        requires free { var < length self.old.values.items }
-        requires small { length self.old.values.items < 2 ^ 32 }
-        ensures { OnOk result (Decides self.old self.new var) }
+    /// Learns a clause from a conflict under some decision, jumps back to where its last literal is forced, and makes
+    /// that true. The only error is want of memory.
+    pub fn learn<L: Ledger>(
+        &mut self,
+        alloc: Global,
+        conflict: usize,
+        steps: &mut Steps<L>,
+    ) -> Result<(), Memory>
+        requires watching { IsWatching self.old.state.packed self.old.state.watches self.old.state.trail }
+        requires decided { 0 < length self.old.state.trail.starts.items }
+        requires conflict { IsConflict self.old.state.packed self.old.state.trail conflict }
+        ensures learns { OnOk result (Learns self.old self.new) }
+        ensures cost { OnOk result (steps.new ≤ steps.old + squares self.old.state.packed) }
     {
-        let level = self.decisions.len() + 1;
-        self.decisions.push(Lit::negative(var as u32))?;
-        self.values[var] = Some(Held {
-            positive: false,
-            level,
-        });
-        Ok(())
-    }
-
-    /// Learns that one of the decisions is wrong, and takes back the last.
-    pub fn learn(&mut self, alloc: Global) -> Result<(), Memory>
-        requires { 0 < length self.old.decisions.items }
-        ensures { OnOk result (Learns self.old self.new) }
-    {
-        let clause = learned(alloc, self.decisions.as_slice())?;
+        let learned = analyse(
+            alloc,
+            &self.state.packed,
+            &self.state.trail,
+            conflict,
+            steps,
+        )?;
+        let clause = learned.log_clause(alloc)?;
         self.log.push(clause)?;
-        let level = self.decisions.len();
-        let _ = self.decisions.pop();
-        take_back(self.values.as_mut_slice(), level);
+        let bound = learned.bound;
+        let lits = learned.into_watched()?;
+        self.state.add_learned(lits.as_slice(), bound)?;
         Ok(())
     }
 }

@@ -1,0 +1,9 @@
+pub mod Sums
+pub mod Potential
+pub mod Walks
+pub mod Repeating
+pub mod Attaching
+pub mod Changes
+pub mod Adding
+pub mod Given
+pub mod Loading

@@ -1,0 +1,3 @@
+pub mod Repeats
+pub mod Potential
+pub mod State

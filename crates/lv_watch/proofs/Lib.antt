@@ -1,0 +1,9 @@
+pub mod Levels
+pub mod Trails
+pub mod Places
+pub mod Pairs
+pub mod Visiting
+pub mod Passing
+pub mod Walking
+pub mod Index
+pub mod Watching

@@ -1,0 +1,5 @@
+pub mod Values
+pub mod Trail
+pub mod Visit
+pub mod Lists
+pub mod Watching
