@@ -1,5 +1,5 @@
-//! The adapters of std's streams.
-use lv_edge::{Failed, ReadAll, StdSink, StdSource, read_all, write_all};
+//! The adapters of std's streams, and what is left of a source in memory.
+use lv_edge::{Failed, List, MemorySource, ReadAll, StdSink, StdSource, read_all, write_all};
 use std::io;
 use std::io::{Cursor, Read};
 use std::test::Fail;
@@ -36,5 +36,18 @@ fn std_writers_are_written(rt: HostRuntime) -> Result<(), Fail> {
     let mut sink = StdSink::new(room.as_mut_slice());
     assert_eq!(rt; write_all(&mut sink, b"hello"), Err(Failed));
     assert_eq!(rt; room, *b"hel");
+    Ok(())
+}
+
+// The second read fails, and the source goes on from there.
+#[test]
+fn a_source_in_memory_tells_what_is_left(rt: HostRuntime) -> Result<(), Fail> {
+    let alloc = rt.alloc();
+    let bytes = List::from_vec(Vec::from_slice(alloc, b"hello")?);
+    let fails = List::from_vec(vec![in alloc; 2]?);
+    let mut source = MemorySource::new(bytes, 2, fails);
+    let answer = read_all(alloc, &mut source, 10);
+    assert!(rt; matches!(answer, Err(ReadAll::ReadFault)));
+    assert_eq!(rt; source.rest(), b"llo".as_slice());
     Ok(())
 }
