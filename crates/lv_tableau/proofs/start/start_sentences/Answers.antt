@@ -7,7 +7,7 @@ use Rattle.lv_tableau.proofs.SentencesLaw.{start_true}
 use Rattle.lv_tableau.proofs.start.start_sentences.Goals as goal
 
 pub denied_start-requires : goal.denied_start-requires
-denied_start-requires c = c.requires.table.keys
+denied_start-requires c = record { keys = c.requires.table.keys }
 
 pub returns-clause-list : goal.returns-clause-list
 returns-clause-list c = search rules
