@@ -4,7 +4,7 @@ ghost use Rattle.lv_syntax.specs.Names.{sorts_seen};
 
 use crate::growing::Growing;
 use lv_formula::{Formula, SortId, Sym, Temporal, Text};
-use lv_labels::KnownKeys;
+use lv_labels::Key;
 use lv_system::{Action, Fair, Invariant, LabelDecl, Sort, Symbol, WitnessDecl};
 use std::slice;
 
@@ -25,7 +25,7 @@ pub(crate) struct Draft {
     pub(crate) property: Option<Temporal>,
     pub(crate) invariants: Growing<Invariant>,
     /// The table of labels so far: each once, in order of text.
-    pub(crate) keys: KnownKeys,
+    pub(crate) keys: Growing<Key>,
 }
 
 /// What a name names, by its number among those of its kind.

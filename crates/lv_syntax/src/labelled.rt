@@ -8,13 +8,14 @@ ghost use Rattle.lv_syntax.specs.Items.{always_in, label_checked, label_item, pl
 
 use crate::draft::{Draft, Role};
 use crate::fault::{Kind, ReadText};
+use crate::growing::Growing;
 use crate::labelling::{check_free, keys_over, own, read_path};
 use crate::names::{new_variable, sort};
 use crate::parameters::{Opening, name, open, sorts_of_parameters, text_of};
 use crate::scope::{Parameter, Scope};
 use crate::trees::{HeadedList, finish, head, list, next, place, refuse_if};
 use lv_formula::Temporal;
-use lv_labels::{KnownKeys, free_variables};
+use lv_labels::{Key, free_variables};
 use lv_system::{LabelDecl, WitnessDecl, same_bytes};
 use lv_tree::Tree;
 use std::alloc::Global;
@@ -24,7 +25,7 @@ use std::alloc::Global;
 pub(crate) struct Labelled {
     pub(crate) label: LabelDecl,
     pub(crate) number: u32,
-    pub(crate) table: KnownKeys,
+    pub(crate) table: Growing<Key>,
 }
 
 /// `(always T)`
@@ -34,7 +35,7 @@ fn read_always(
     draft: &Draft,
     params: &[Parameter],
     tree: &Tree,
-) -> Result<(Temporal, KnownKeys), ReadText>
+) -> Result<(Temporal, Growing<Key>), ReadText>
     ensures { Gives (λ x. x) result (always_in draft.now (scope_of (params_seen params.now)) tree.now) }
 {
     let list = head(tree)?;
@@ -62,13 +63,13 @@ fn checked_label(
     name_at: u32,
     opening: &Opening,
     formula: Temporal,
-    table: KnownKeys,
+    table: Growing<Key>,
 ) -> Result<Labelled, ReadText>
     ensures { Gives labelled_seen result (label_checked draft.now name_at (opening_seen opening.now) (formula, table)) }
 {
     let params = opening.params.as_slice();
     let keys = keys_over(alloc, &formula, params)?;
-    let number = own(&table, keys.as_slice());
+    let number = own(table.as_slice(), keys.as_slice()) as u32;
     let declared = is_declared(number, draft.numbers.as_slice());
     refuse_if(declared, Kind::TwiceNamed, name_at)?;
     let free = free_variables(alloc, &formula)?;
@@ -137,7 +138,7 @@ pub(crate) fn read_witness(
     alloc: Global,
     draft: &Draft,
     list: &HeadedList,
-) -> Result<(WitnessDecl, KnownKeys), ReadText>
+) -> Result<(WitnessDecl, Growing<Key>), ReadText>
     ensures { Gives (λ x. x) result (witness_item draft.now (headed_seen list.now)) }
 {
     let (name, rest) = name(draft, list.end, list.rest)?;
@@ -160,7 +161,7 @@ pub(crate) fn read_property(
     alloc: Global,
     draft: &Draft,
     list: &HeadedList,
-) -> Result<(Temporal, KnownKeys), ReadText>
+) -> Result<(Temporal, Growing<Key>), ReadText>
     ensures { Gives (λ x. x) result (property_item draft.now (headed_seen list.now)) }
 {
     let (first, rest) = next(list.end, list.rest)?;

@@ -1,7 +1,7 @@
 //! The labels of formulas, with the limits that are found once a formula is read.
-ghost use Rattle.std.specs.Prelude.{◌≡◌, ◌++◌, ◌∷◌, [], IfOk, IfErr, OnOk, codes, map, reverse};
-ghost use Rattle.lv_labels.specs.Once.{once_behind};
-ghost use Rattle.lv_labels.specs.Labels.{key_eq, keys_of};
+ghost use Rattle.std.specs.Prelude.{◌≡◌, ◌≤◌, ◌++◌, ◌∷◌, length, [], IfOk, IfErr, OnOk, codes, map, reverse};
+ghost use Rattle.lv_labels.specs.Once.{is_among, once_behind, place_of};
+ghost use Rattle.lv_labels.specs.Labels.{key_eq, keys_of, number_of};
 ghost use Rattle.lv_syntax.specs.Given.{Gives};
 ghost use Rattle.lv_syntax.specs.Parameters.{params_seen};
 ghost use Rattle.lv_syntax.specs.Labelling.{marked, is_operator_word, begins_operator, operator_places, operator_places_all, add_labels, path_in, own_number, free_name};
@@ -12,12 +12,13 @@ use crate::declarations::ROOM;
 use crate::draft::{Draft, Role};
 use crate::fault::{Kind, ReadText};
 use crate::formulas::read_temporal;
+use crate::growing::Growing;
 use crate::parameters::sorts_of_parameters;
 use crate::scope::{Parameter, Scope};
 use crate::symbols::Setting;
 use crate::trees::{refusal, refuse_if};
 use lv_formula::{List, Memory, Scope as Context, Temporal};
-use lv_labels::{Key, KnownKeys};
+use lv_labels::Key;
 use lv_system::same_bytes;
 use lv_tree::Tree;
 use std::alloc::Global;
@@ -72,15 +73,61 @@ fn push_all_places(items: &[Tree], places: &mut Vec<u32>) -> Result<(), Memory>
     Ok(())
 }
 
+fn is_known(key: &Key, known: &[Key]) -> bool
+    ensures { result ≡ is_among key_eq key.now known.now }
+{
+    for other in known {
+        if key.equal(other) {
+            return true;
+        }
+    }
+    false
+}
+
+/// The number of the label in the table, the table's length where it is not there.
+fn number(table: &[Key], key: &Key) -> usize
+    ensures number { result ≡ number_of table.now key.now }
+    ensures within { result ≤ length table.now }
+{
+    for (i, other) in table.iter().enumerate() {
+        if key.equal(other) {
+            return i;
+        }
+    }
+    table.len()
+}
+
+fn copied(alloc: Global, keys: &[Key]) -> Result<Growing<Key>, ReadText>
+    ensures copy { IfOk result (λ copy. copy ≡ keys.now) }
+    ensures memory { IfErr result (λ e. e ≡ ReadText.Memory) }
+{
+    let mut copy = Growing::new(alloc);
+    for key in keys {
+        copy.push(key.share(alloc)?)?;
+    }
+    Ok(copy)
+}
+
+/// The labels that are known, with this one behind them if it isn't there.
+fn with_key(alloc: Global, mut known: Growing<Key>, key: &Key) -> Result<Growing<Key>, ReadText>
+    ensures keys { IfOk result (λ keys. keys ≡ once_behind key_eq known (key.now ∷ [])) }
+    ensures memory { IfErr result (λ e. e ≡ ReadText.Memory) }
+{
+    if !is_known(key, known.as_slice()) {
+        known.push(key.share(alloc)?)?;
+    }
+    Ok(known)
+}
+
 /// The labels that are known, and behind them those of a formula, each once. A label with five free
 /// variables is one too many, and so is the 33rd.
 #[tactic(auto, unfolding(crate::specs::Labelling::add_labels))]
 fn with_keys(
     alloc: Global,
-    mut known: KnownKeys,
+    known: Growing<Key>,
     places: &[u32],
     keys: &[Key],
-) -> Result<KnownKeys, ReadText>
+) -> Result<Growing<Key>, ReadText>
     ensures { Gives (λ x. x) result (add_labels known places.now keys.now) }
 {
     match keys {
@@ -88,9 +135,9 @@ fn with_keys(
         [key, keys @ ..] => match places {
             [] => Ok(known),
             [at, places @ ..] => {
-                known.add(key.share(alloc)?)?;
+                let known = with_key(alloc, known, key)?;
                 let wide = key.sorts.as_slice().len() > 4;
-                refuse_if(wide || known.len() > 32, Kind::TooMany, *at)?;
+                refuse_if(wide || known.as_slice().len() > 32, Kind::TooMany, *at)?;
                 with_keys(alloc, known, places, keys)
             }
         },
@@ -140,25 +187,26 @@ pub(crate) fn read_path(
     role: Role,
     params: &[Parameter],
     tree: &Tree,
-) -> Result<(Temporal, KnownKeys), ReadText>
+) -> Result<(Temporal, Growing<Key>), ReadText>
     ensures { Gives (λ x. x) result (path_in draft.now role 58 (scope_of (params_seen params.now)) tree.now) }
 {
     let setting = Setting { draft, role };
     let f = temporal_over(alloc, &setting, params, tree)?;
     let places = operators(alloc, tree)?;
     let keys = keys_over(alloc, &f, params)?;
-    let known = draft.keys.copy(alloc)?;
+    let known = copied(alloc, draft.keys.as_slice())?;
     let table = with_keys(alloc, known, places.as_slice(), keys.as_slice())?;
     Ok((f, table))
 }
 
 /// The number of the formula's own label, which is the first.
-pub(crate) fn own(table: &KnownKeys, keys: &[Key]) -> u32
-    ensures { result ≡ own_number table.now keys.now }
+pub(crate) fn own(table: &[Key], keys: &[Key]) -> usize
+    ensures number { result ≡ own_number table.now keys.now }
+    ensures within { result ≤ length table.now }
 {
     match keys {
         [] => 0,
-        [own, ..] => table.number(own),
+        [own, ..] => number(table, own),
     }
 }
 

@@ -11,7 +11,6 @@ use crate::parameters::text_of;
 use crate::trees::{head, next, refusal, refuse_if, word};
 use crate::words::{Family, family_in};
 use lv_formula::Text;
-use lv_labels::KnownKeys;
 use lv_system::{Parts, same_bytes};
 use lv_tree::Tree;
 use std::alloc::Global;
@@ -33,7 +32,7 @@ fn without_items(alloc: Global, name: Text) -> Draft
         witnesses: Growing::new(alloc),
         property: None,
         invariants: Growing::new(alloc),
-        keys: KnownKeys::new(alloc),
+        keys: Growing::new(alloc),
     }
 }
 
