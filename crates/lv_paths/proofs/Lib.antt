@@ -1,2 +1,0 @@
-pub mod PerformingLaws
-pub mod StructureLaws
