@@ -1,0 +1,11 @@
+pub mod Arounds
+pub mod Equality
+pub mod Forms
+pub mod GroundForms
+pub mod Grounds
+pub mod Least
+pub mod Occurring
+pub mod Places
+pub mod Sizes
+pub mod SortGraphs
+pub mod Universes
