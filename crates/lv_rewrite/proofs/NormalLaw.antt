@@ -109,11 +109,11 @@ module _ (m : Meaning) where
   at_iff : (f g : Formula) → Signed f → Signed g → Signed (Iff f g)
   at_iff f g ihf ihg true env = simp folds_at (
       ap₂ (λ a b. a && (b && true)) (ap₂ (λ a b. a || (b || false)) (ihf false env) (ihg true env))
-          (ap₂ (λ a b. a || (b || false)) (ihg false env) (ihf true env))
+      (ap₂ (λ a b. a || (b || false)) (ihg false env) (ihf true env))
       ∙ iff_up (truth_in m f env) (truth_in m g env))
   at_iff f g ihf ihg false env = simp folds_at (
       ap₂ (λ a b. a && (b && true)) (ap₂ (λ a b. a || (b || false)) (ihf true env) (ihg true env))
-          (ap₂ (λ a b. a || (b || false)) (ihf false env) (ihg false env))
+      (ap₂ (λ a b. a || (b || false)) (ihf false env) (ihg false env))
       ∙ iff_down (truth_in m f env) (truth_in m g env))
 
   at_all : (s : SortId) (f : Formula) → Signed f → Signed (All s f)
