@@ -1,0 +1,11 @@
+pub mod Capped
+pub mod Counts
+pub mod InRange
+pub mod Limits
+pub mod Meets
+pub mod NoCycle
+pub mod Ranged
+pub mod Ranks
+pub mod Rising
+pub mod Sorted
+pub mod Walks

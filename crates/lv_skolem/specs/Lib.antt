@@ -1,0 +1,4 @@
+pub mod Counting
+pub mod Laws
+pub mod Ranking
+pub mod Skolems
