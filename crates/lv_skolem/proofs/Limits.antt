@@ -1,5 +1,5 @@
 -- More terms make the size no smaller, and a sort with too many terms makes it too large.
-use Rattle.std.proofs.Common.{◌≡◌, ℕ, zero, suc, ◌+◌, ◌-◌, ◌*◌, ◌<◌, ◌≤◌, List, [], ◌∷◌, Some, None, ap, subst, arith}
+use Rattle.std.proofs.Common.{◌≡◌, ℕ, zero, suc, ◌+◌, ◌-◌, ◌*◌, ◌<◌, ◌≤◌, List, [], ◌∷◌, Some, Option, None, ap, sym, ◌∙◌, subst, arith}
 use Rattle.std.proofs.lemmas.Bool.{cases_eq, cases_lt}
 use Rattle.std.proofs.Math.Nat.{mul-le-mul}
 use Rattle.lv_formula.specs.declared.symbols.SortId.{SortId}
@@ -98,9 +98,13 @@ size_none sk n size least e l m solves = let r = size_rises n m (least m solves)
 pub size_some : (sk : Skolem) (n : SortId → ℕ) (size : ℕ) → IsCount sk n → size ≡ capped (size_of sk n) → size ≤ limit → SizeIs sk (Some size)
 size_some sk n size is e l = let z : size ≡ size_of sk n = omega arith in (n, is, z, l)
 
--- sentences without a cycle whose size was found are within the limit
-pub within_where_sized : (voc : Vocabulary) (s : Sentences) (sk : Skolem) (size : ℕ) → IsSkolem voc s sk → sk.cycle ≡ None → sk.size ≡ Some size → IsWithin sk
-within_where_sized voc s sk size is acyclic sized =
-    let found = subst (SizeIs sk) sized (subst (λ o. SizeUnless o sk) acyclic is.size) in
+-- sentences whose size was found are within the limit
+within_unless : (sk : Skolem) (cycle : Option (List SortId)) (size : ℕ) → SizeUnless cycle sk → sk.size ≡ Some size → IsWithin sk
+within_unless sk None size h sized =
+    let found = subst (SizeIs sk) sized h in
     let bound : size_of sk found.0 ≤ limit = omega (arith, found.2, found.3) in
     (found.0, found.1, bound)
+within_unless sk (Some sorts) size h sized = absurd (let e : None ≡ Some size = sym h ∙ sized in cc)
+
+pub within_where_sized : (voc : Vocabulary) (s : Sentences) (sk : Skolem) (size : ℕ) → IsSkolem voc s sk → sk.size ≡ Some size → IsWithin sk
+within_where_sized voc s sk size is sized = within_unless sk sk.cycle size is.size sized
