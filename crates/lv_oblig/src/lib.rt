@@ -1,7 +1,17 @@
-//! The obligations of a system, and what follows for its runs where all of them are valid: the laws `walk` and `sound`.
+//! The obligations of a system: how many there are, and the vocabulary, the hypotheses and the conclusion of each.
 //!
-//! Their definitions stand in lv_labels and the laws in lv_temporal; both are given out here under the same names.
+//! An obligation asks that no structure of its vocabulary breaks it, by the definitions of lv_labels: that each invariant
+//! holds at the start, and after each step of the monitored structure, and that no structure is caught. A structure breaks
+//! an obligation exactly where it makes the hypotheses true and the conclusion false. The laws on the runs of a system whose
+//! obligations are valid, among them `walk` and `sound`, are those of lv_temporal.
 #![tactic(auto)]
 
+pub mod laws;
+mod making;
+mod numbering;
+mod spoken;
+
 pub use lv_labels::Which;
-pub use lv_temporal::laws;
+pub use making::sentences;
+pub use numbering::{count, which_obligation};
+pub use spoken::vocabulary;

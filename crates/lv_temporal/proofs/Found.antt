@@ -266,7 +266,7 @@ module _ (q : Problem) where
       ∙ relation-skip copies copies_of_labels (CopyLabel n) (copies-not 9 (λ e. omega (arith, e)))
       ∙ (let z : at_zero n = omega arith in subst (λ j. relation_in copies_of_labels (CopyLabel j) ≡ Some (label_at q n).sorts) z (shape-from CopyLabel copy_label_naming 0 q.labels n l))
 
-  catch-not_next : All (NotKind 10) (catch_vocabulary q).relations
+  pub catch-not_next : All (NotKind 10) (catch_vocabulary q).relations
   catch-not_next = All-append (NotKind 10) (state_vocabulary q).relations _ (state-not 10 (λ e. omega (arith, e)) (λ e. omega (arith, e)))
       (All-append (NotKind 10) marks _ (marks-not 10 (λ e. omega (arith, e)) (λ e. omega (arith, e))) (All-append (NotKind 10) touched _ (touched-not 10 (λ e. omega (arith, e))) (All-append (NotKind 10) kept _ (kept-not 10 (λ e. omega (arith, e)))
       (All-append (NotKind 10) due _ (due-not 10 (λ e. omega (arith, e))) (All-append (NotKind 10) copies copies_of_labels (copies-not 10 (λ e. omega (arith, e))) (copies_of_labels-not 10 (λ e. omega (arith, e))))))))

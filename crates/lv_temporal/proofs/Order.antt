@@ -10,11 +10,11 @@ use Rattle.lv_labels.specs.declared.moves.Move.TheVariants.{Stay, Freeze, Save}
 use Rattle.lv_labels.specs.declared.which.Which.TheVariants.{Catch}
 use Rattle.lv_labels.specs.Obligations.{obligations_of, starts_from, steps_from, steps_of_move}
 
-length-starts : (n : ℕ) (is : List Invariant) → length (starts_from n is) ≡ length is
+pub length-starts : (n : ℕ) (is : List Invariant) → length (starts_from n is) ≡ length is
 length-starts n [] = refl
 length-starts n (i ∷ is) = ap suc (length-starts (suc n) is)
 
-length-moves : (a : ℕ) (mv : Move) (n : ℕ) (is : List Invariant) → length (steps_of_move a mv n is) ≡ length is
+pub length-moves : (a : ℕ) (mv : Move) (n : ℕ) (is : List Invariant) → length (steps_of_move a mv n is) ≡ length is
 length-moves a mv n [] = refl
 length-moves a mv n (i ∷ is) = ap suc (length-moves a mv (suc n) is)
 

@@ -1,0 +1,11 @@
+pub mod ConditionsLaw
+pub mod Counting
+pub mod FitLaw
+pub mod Made
+pub mod NoNext
+pub mod OpeningLaw
+pub mod SentencesLaw
+pub mod SoundVocabularies
+pub mod StandLaw
+pub mod StepLaw
+pub mod Tight
