@@ -1,4 +1,5 @@
 //! What is answered to each kind of case.
+use crate::obligations::{obligation, obligations, words};
 use crate::sentences::sentences;
 use crate::spelling::bytes_of;
 use crate::streams::Streams;
@@ -23,7 +24,19 @@ pub fn answer(alloc: Global, line: &str) -> Result<String> {
         "equations" | "justice" | "start" | "witnesses" => {
             sentences(alloc, call, &system(alloc, text.as_slice())?)
         }
-        _ => called(alloc, call, text, Streams::of(settings)?),
+        "obligations" => obligations(alloc, &system(alloc, text.as_slice())?),
+        _ => numbered(alloc, call, text, settings),
+    }
+}
+
+/// What is answered of one obligation, or else to a call.
+fn numbered(alloc: Global, call: &str, text: Vec<u8>, settings: &str) -> Result<String> {
+    if let Some(number) = call.strip_prefix("obligation ") {
+        obligation(alloc, &system(alloc, text.as_slice())?, number)
+    } else if let Some(number) = call.strip_prefix("vocabulary ") {
+        words(alloc, &system(alloc, text.as_slice())?, number)
+    } else {
+        called(alloc, call, text, Streams::of(settings)?)
     }
 }
 

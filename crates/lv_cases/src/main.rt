@@ -8,6 +8,9 @@
 //! tree | (a (b))                                the line of the tree, and the places of its brackets and words
 //! justice | (system a (property p))             the justice conditions of the system, one behind the other; and so
 //!                                               `equations`, `start` and `witnesses`
+//! obligations | (system a (property p))         how many obligations there are, and their names
+//! obligation 5 | (system a (property p))        the hypotheses of an obligation, `=>` and its conclusion
+//! vocabulary 5 | (system a (property p))        the words of its vocabulary
 //! ```
 //!
 //! The words of a call stand behind one space each. How a text and a word are written is told in `spelling`, how
@@ -15,6 +18,7 @@
 #![tactic(auto)]
 
 mod answers;
+mod obligations;
 mod sentences;
 mod spelling;
 mod streams;

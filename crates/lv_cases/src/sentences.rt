@@ -33,7 +33,8 @@ pub fn sentences(alloc: Global, kind: &str, system: &System) -> Result<String> {
     Ok(String::from_utf8(line)?)
 }
 
-fn shown(
+/// The closed formulas, one behind the other.
+pub fn shown(
     alloc: Global,
     formulas: &[Formula],
     system: &System,
@@ -72,7 +73,8 @@ fn shown_conditions(
     Ok(line)
 }
 
-fn push_shown(
+/// Adds a formula in the scope of so many variables.
+pub fn push_shown(
     alloc: Global,
     line: &mut Vec<u8>,
     formula: &Formula,
