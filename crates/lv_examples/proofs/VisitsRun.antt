@@ -8,7 +8,8 @@ use Rattle.lv_formula.specs.declared.vocabulary.ConShape.{ConShape}
 use Rattle.lv_formula.specs.declared.formula.Formula.TheVariants as F
 use Rattle.lv_formula.proofs.Folds as FF
 use Rattle.lv_formula.specs.Meaning.{IsStructureOf, Meaning, in_range}
-use Rattle.lv_struct.proofs.Tabulate.{constant_found, tables_of, vocabulary-tables_of}
+use Rattle.lv_struct.specs.Tabulation.{tables_of}
+use Rattle.lv_struct.proofs.Tabulate.{constant_found, vocabulary-tables_of}
 use Rattle.lv_formula.specs.Tuples.{over}
 use Rattle.lv_formula.specs.Truth.{Env, truth_in}
 use Rattle.lv_system.specs.Step.{IsAllowed, action_at}

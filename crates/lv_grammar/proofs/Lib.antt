@@ -6,9 +6,13 @@ pub mod ItemLaws
 pub mod LayoutLaw
 pub mod Lifting
 pub mod Likeness
+pub mod OneStructure
 pub mod Scopes
 pub mod ShownFormulas
+pub mod SmallElements
 pub mod SpokenParts
+pub mod StructureFits
+pub mod StructureText
 pub mod SymbolWords
 pub mod SystemLaw
 pub mod TextLaw

@@ -5,7 +5,10 @@ pub mod Layout
 pub mod LayoutLaws
 pub mod Lifted
 pub mod ShownFormulas
+pub mod ShownStructures
 pub mod ShownSystems
 pub mod Spelling
+pub mod StructureLaws
+pub mod Structures
 pub mod Trees
 pub mod Words

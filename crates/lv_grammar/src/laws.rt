@@ -1,6 +1,7 @@
-//! What holds of the trees and texts that are shown, whatever the system: each law is the contract of a
+//! What holds of the trees and texts that are shown, whatever the system or the structure: each law is the contract of a
 //! function that does nothing.
 ghost use Rattle.lv_grammar.specs.LayoutLaws.{ShownIsSpelled, ShownFits, SpelledHasWords, ShownTextSpells, FittingCanBeShown, SpelledCanBeShown};
+ghost use Rattle.lv_grammar.specs.StructureLaws.{ShownStructureSpells, SpellsOneStructure};
 
 /// Where some tree spells a system, the tree that is shown spells it, the places aside.
 pub fn shown_is_spelled()
@@ -31,4 +32,14 @@ pub fn fitting_can_be_shown()
 /// Where some tree spells a system, the symbols and sorts of each of its formulas have words.
 pub fn spelled_can_be_shown()
     ensures { SpelledCanBeShown }
+{}
+
+/// The text that is shown for a structure spells it.
+pub fn shown_structure_spells()
+    ensures { ShownStructureSpells }
+{}
+
+/// A text spells one structure of a vocabulary alone.
+pub fn one_structure()
+    ensures { SpellsOneStructure }
 {}

@@ -1,4 +1,4 @@
-//! Systems, formulas and symbols as texts.
+//! Systems, structures, formulas and symbols as texts.
 //!
 //! A system is shown in lines, an item on each, with variables named by the number of those in whose
 //! scope they stand. Where some text spells a system, the text that is shown spells it too. The layout is defined
@@ -7,9 +7,10 @@
 
 mod formulas;
 mod items;
+mod structures;
 mod texts;
 mod trees;
 mod words;
 
 pub use lv_grammar::laws;
-pub use texts::{show, show_formula, show_sym};
+pub use texts::{show, show_formula, show_structure, show_sym};

@@ -1,4 +1,4 @@
-//! Texts of systems, formulas and symbols.
+//! Texts of systems, structures, formulas and symbols.
 ghost use Rattle.std.specs.Prelude.{◌≡◌, ◌++◌, List, codes, IfOk, OnOk};
 ghost use Rattle.lv_tree.specs.declared.tree.Tree.{Tree};
 ghost use Rattle.lv_tree.specs.Writing.{written};
@@ -8,12 +8,18 @@ ghost use Rattle.lv_grammar.specs.Spelling.{SpellsSystem, Spells};
 ghost use Rattle.lv_grammar.specs.ShownFormulas.{shown_formula};
 ghost use Rattle.lv_grammar.specs.ShownSystems.{shown_items};
 ghost use Rattle.lv_grammar.specs.Layout.{in_lines, shown_text};
+ghost use Rattle.lv_grammar.specs.ShownStructures.{shown_parts, shown_structure};
+ghost use Rattle.lv_grammar.specs.StructureLaws.{StructureCanBeShown};
+ghost use Rattle.lv_grammar.specs.Structures.{SpellsStructure};
+ghost use Rattle.lv_struct.specs.Tables.{HasVocabulary};
 
 use crate::formulas::formula;
 use crate::items::items;
+use crate::structures::structure_parts;
 use crate::words::{Words, symbol_word};
-use lv_formula::{Formula, Memory, Sym};
+use lv_formula::{Formula, Memory, Sym, Vocabulary};
 use lv_labels::{LabelTable, labels_of};
+use lv_struct::Structure;
 use lv_system::System;
 use lv_tree::{List, Text, Tree, write_line};
 use std::alloc::Global;
@@ -58,6 +64,36 @@ pub fn show(alloc: Global, system: &System) -> Result<List<u8>, Memory>
     let trees = items(alloc, &words)?;
     let mut text = Vec::from_slice(alloc, b"(system ")?;
     text.extend_from_slice(parts.name.as_slice())?;
+    push_lines(alloc, &mut text, trees.as_slice())?;
+    text.extend_from_slice(b")\n")?;
+    Ok(List::from_vec(text))
+}
+
+/// The text of a structure over a vocabulary: the size of each sort, and then each relation with its tuples and each
+/// constant with its element, in order of the vocabulary, each on a line of its own behind two spaces, `)` directly behind
+/// the last one, and a newline. The only error is want of memory.
+///
+/// The caller sees to it that the table is the system's and that the structure has the vocabulary.
+pub fn show_structure(
+    alloc: Global,
+    m: &Structure,
+    system: &System,
+    table: &LabelTable,
+    voc: &Vocabulary,
+) -> Result<List<u8>, Memory>
+    requires table { table.now.labels ≡ table_labels system.now }
+    requires vocabulary { HasVocabulary voc.now m.now }
+    ensures text { IfOk result (λ bytes. bytes ≡ shown_structure system.now voc.now m.now) }
+
+    // Where no sort has more than 256 elements and the symbols have words, the text spells the structure.
+    ensures spells { StructureCanBeShown system.now voc.now m.now → IfOk result (λ bytes. SpellsStructure system.now voc.now bytes m.now) }
+{
+    let words = Words {
+        parts: system.parts(),
+        labels: table.labels.as_slice(),
+    };
+    let trees = structure_parts(alloc, m, voc, &words)?;
+    let mut text = Vec::from_slice(alloc, b"(structure")?;
     push_lines(alloc, &mut text, trees.as_slice())?;
     text.extend_from_slice(b")\n")?;
     Ok(List::from_vec(text))

@@ -1,6 +1,7 @@
-//! Trees without places: words, lists, variables.
-ghost use Rattle.std.specs.Prelude.{◌≡◌, ◌∷◌, ◌++◌, [], List, codes, IfOk};
+//! Trees without places: words, lists, variables, numbers.
+ghost use Rattle.std.specs.Prelude.{◌≡◌, ◌∷◌, ◌++◌, [], List, codes, map, IfOk};
 ghost use Rattle.lv_grammar.specs.ShownFormulas.{word, list, variable_name};
+ghost use Rattle.lv_grammar.specs.ShownStructures.{number};
 
 use itoa::Buffer;
 use lv_formula::Memory;
@@ -39,6 +40,25 @@ pub(crate) fn variable(alloc: Global, number: u64) -> Result<Tree, Memory>
         at: 0,
         text: List::from_vec(text),
     })
+}
+
+/// A number.
+pub(crate) fn number(alloc: Global, n: u32) -> Result<Tree, Memory>
+    ensures { IfOk result (λ t. t ≡ number n) }
+{
+    let mut buffer = Buffer::new();
+    word(alloc, buffer.format(n).as_bytes())
+}
+
+/// A list of these numbers.
+pub(crate) fn numbers(alloc: Global, ns: &[u32]) -> Result<Tree, Memory>
+    ensures { IfOk result (λ t. t ≡ list (map number ns.now)) }
+{
+    let mut items = Vec::new(alloc);
+    for n in ns {
+        items.push(number(alloc, *n)?)?;
+    }
+    Ok(list(items))
 }
 
 /// A list of a word and one more item.

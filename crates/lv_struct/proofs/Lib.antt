@@ -2,5 +2,6 @@ pub mod ChangeLaws
 pub mod CompareLaws
 pub mod MeaningLaws
 pub mod PairLaws
+pub mod RangeLaws
 pub mod Tabulate
 pub mod TupleLaws

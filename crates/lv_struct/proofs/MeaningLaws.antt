@@ -14,7 +14,7 @@ use Rattle.lv_struct.specs.declared.tables.Relation.{Relation}
 use Rattle.lv_struct.specs.declared.tables.Constant.{Constant}
 use Rattle.lv_struct.specs.Changes.{empty_relation, empty_structure, first_element, put_element, put_tuples, with_element, with_tuples}
 use Rattle.lv_struct.specs.Compare.{IsSame, IsSameRelation}
-use Rattle.lv_formula.specs.Meaning.{IsStructureOf, Meaning}
+use Rattle.lv_formula.specs.Meaning.{IsStructureOf}
 use Rattle.lv_struct.specs.Tables.{HasVocabulary, IsConstantSound, IsSound, Tables, constant_shape, element_in, holds_in, meaning, relation_shape, size_of, sort_in, sorts_in, tuples_in, value_in}
 use Rattle.lv_formula.specs.Tuples.{has_tuple}
 use Rattle.lv_formula.proofs.MeaningLaws.{same_meaning}

@@ -1,5 +1,5 @@
 -- A structure that is given as functions has tables over a vocabulary, which agree with it there.
-use Rattle.std.proofs.Common.{◌≡◌, ◌≢◌, ℕ, zero, suc, ◌+◌, ◌<◌, false, ◌&&◌, ltb, List, [], ◌∷◌, ◌++◌, length, map, get_or, Some, refl, sym, ap, ap₂, subst, ◌∙◌, arith, ⊎_elim}
+use Rattle.std.proofs.Common.{◌≡◌, ◌≢◌, ℕ, zero, suc, ◌+◌, ◌-◌, ◌<◌, false, ◌&&◌, ltb, List, [], ◌∷◌, ◌++◌, length, map, get_or, Some, refl, sym, ap, ap₂, subst, ◌∙◌, append_assoc, arith, ⊎_elim}
 use Rattle.std.specs.List.{All, AllPairs, filter}
 use Rattle.std.proofs.lemmas.Bool.{and_parts, cases_Bool, cond-true, cond-false}
 use Rattle.std.proofs.lemmas.List.Elements.{All-nil, All-cons, All-head, All-tail}
@@ -9,33 +9,24 @@ use Rattle.lv_formula.specs.declared.vocabulary.RelShape.{RelShape}
 use Rattle.lv_formula.specs.declared.vocabulary.ConShape.{ConShape}
 use Rattle.lv_formula.specs.declared.vocabulary.Vocabulary.{Vocabulary}
 use Rattle.lv_formula.specs.Symbols.{sym_eq}
+use Rattle.lv_formula.specs.Vocabulary as vocabularies
 use Rattle.lv_formula.specs.Vocabulary.{constant_in, relation_in, symbols_of}
 use Rattle.lv_formula.proofs.SymbolLaws.{sym_eq-refl, sym_eq-true}
 use Rattle.lv_struct.specs.declared.tables.Relation.{Relation}
 use Rattle.lv_struct.specs.declared.tables.Constant.{Constant}
 use Rattle.lv_formula.specs.Meaning.{AgreeOn, IsStructureOf, Meaning, in_range}
-use Rattle.lv_struct.specs.Tables.{HasVocabulary, IsConstantSound, IsRelationSound, IsSound, Tables, constant_shape, element_in, holds_in, meaning, relation_shape, size_of, tuples_in, value_in}
+use Rattle.lv_struct.specs.Tables.{HasVocabulary, IsConstantSound, IsRelationSound, IsSound, constant_shape, element_in, holds_in, meaning, relation_shape, size_of, tuples_in, value_in}
 use Rattle.lv_formula.specs.Tuples.{has_tuple, over, tuples_over}
+use Rattle.lv_struct.specs.Tabulation.{constant_entry, relation_table, sizes_from, tables_of}
 use Rattle.lv_struct.proofs.TupleLaws.{All-from_has_tuple, has_tuple-filter, has_tuple-tuples_over}
 
--- the sizes of the sorts from n on, so many
-abbrev pub sizes_from : Meaning → ℕ → ℕ → List ℕ
-sizes_from m n zero = []
-sizes_from m n (suc k) = m.size (record { 0 = n }) ∷ sizes_from m (suc n) k
-
-abbrev pub relation_table : Meaning → RelShape → Relation
-relation_table m r = record { sym = r.sym; sorts = r.sorts; tuples = filter (m.holds r.sym) (tuples_over m.size r.sorts) }
-
-abbrev pub constant_entry : Meaning → ConShape → Constant
-constant_entry m c = record { sym = c.sym; sort = c.sort; element = m.value c.sym }
-
--- the tables of a structure over a vocabulary
-abbrev pub tables_of : Vocabulary → Meaning → Tables
-tables_of voc m = record {
-  sizes = sizes_from m 0 voc.sorts;
-  relations = map (relation_table m) voc.relations;
-  constants = map (constant_entry m) voc.constants;
-}
+-- the sizes from a sort of the vocabulary on begin with its own
+pub size_pushed : (m : Meaning) (k n : ℕ) (all more : List ℕ) (x : ℕ) → k < n → more ≡ all ++ x ∷ [] → x ≡ m.size (record { 0 = k }) → all ++ sizes_from m k (n - k) ≡ sizes_from m 0 n
+    → more ++ sizes_from m (k + 1) (n - (k + 1)) ≡ sizes_from m 0 n
+size_pushed m k n all more x l pushed is before =
+    let longer : n - k ≡ suc (n - (k + 1)) = omega (arith, l) in
+    ap (λ xs. xs ++ sizes_from m (k + 1) (n - (k + 1))) pushed ∙ append_assoc all (x ∷ []) (sizes_from m (k + 1) (n - (k + 1)))
+    ∙ ap (λ y. all ++ y ∷ sizes_from m (k + 1) (n - (k + 1))) is ∙ sym (ap (λ i. all ++ sizes_from m k i) longer) ∙ before
 
 -- what a vocabulary must be for its tables to be sound: no two symbols are the same, and sorts are in range
 pub record IsProper (voc : Vocabulary) : Type 0 where
@@ -46,7 +37,7 @@ pub record IsProper (voc : Vocabulary) : Type 0 where
 size_at : (m : Meaning) (n k i : ℕ) → i < k → get_or (sizes_from m n k) i 1 ≡ m.size (record { 0 = n + i })
 size_at m n zero i l = absurd (omega arith)
 size_at m n (suc k) zero l = ap (λ j. m.size (record { 0 = j })) (omega arith)
-size_at m n (suc k) (suc i) l = size_at m (suc n) k i (omega arith) ∙ ap (λ j. m.size (record { 0 = j })) (omega arith)
+size_at m n (suc k) (suc i) l = size_at m (n + 1) k i (omega arith) ∙ ap (λ j. m.size (record { 0 = j })) (omega arith)
 
 -- a sort of the vocabulary has as many elements in the tables
 pub size-tables_of : (voc : Vocabulary) (m : Meaning) (s : SortId) → s.0 < voc.sorts → size_of (tables_of voc m).sizes s ≡ m.size s
@@ -54,11 +45,11 @@ size-tables_of voc m s l = let same : 0 + s.0 ≡ s.0 = omega arith in size_at m
 
 length-sizes : (m : Meaning) (n k : ℕ) → length (sizes_from m n k) ≡ k
 length-sizes m n zero = refl
-length-sizes m n (suc k) = ap suc (length-sizes m (suc n) k)
+length-sizes m n (suc k) = ap suc (length-sizes m (n + 1) k)
 
 sizes_positive : (m : Meaning) → ((s : SortId) → 0 < m.size s) → (n k : ℕ) → All (λ x. 0 < x) (sizes_from m n k)
 sizes_positive m full n zero = All-nil (λ x. 0 < x)
-sizes_positive m full n (suc k) = All-cons (λ x. 0 < x) _ _ (full _) (sizes_positive m full (suc n) k)
+sizes_positive m full n (suc k) = All-cons (λ x. 0 < x) _ _ (full _) (sizes_positive m full (n + 1) k)
 
 -- tuples over sorts of the vocabulary are in range by the one size function where they are by the other
 pub over_same : (f g : SortId → ℕ) (n : ℕ) → ((s : SortId) → s.0 < n → f s ≡ g s) → (sorts : List SortId) → All (λ s. s.0 < n) sorts → (tuple : List ℕ)
@@ -160,11 +151,11 @@ constants_sound voc m (c ∷ cs) h inside = All-cons (IsConstantSound (tables_of
     (rw (size-tables_of voc m c.sort (All-head (λ c. c.sort.0 < voc.sorts) c cs h)) (All-head (λ c. m.value c.sym < m.size c.sort) c cs inside))
     (constants_sound voc m cs (All-tail (λ c. c.sort.0 < voc.sorts) c cs h) (All-tail (λ c. m.value c.sym < m.size c.sort) c cs inside))
 
-later_differ : {X : Type 0} (xs ys : List X) → AllPairs (λ a b. a ≢ b) (xs ++ ys) → AllPairs (λ a b. a ≢ b) ys
+pub later_differ : {X : Type 0} (xs ys : List X) → AllPairs (λ a b. a ≢ b) (xs ++ ys) → AllPairs (λ a b. a ≢ b) ys
 later_differ [] ys h = h
 later_differ (x ∷ xs) ys h = later_differ xs ys (λ i j d before lt. h (suc i) (suc j) d (omega arith) (omega arith))
 
-not_same : (a b : Sym) → a ≢ b → sym_eq a b ≡ false
+pub not_same : (a b : Sym) → a ≢ b → sym_eq a b ≡ false
 not_same a b h = ⊎_elim (λ e. absurd (h (sym_eq-true a b e))) (λ e. e) (cases_Bool (sym_eq a b))
 
 name_at : (cs : List ConShape) (k : ℕ) (d : ConShape) → k < length cs → get_or (map (λ c. c.sym) cs) k d.sym ≡ (get_or cs k d).sym
@@ -177,7 +168,7 @@ length_names [] = refl
 length_names (c ∷ cs) = ap suc (length_names cs)
 
 -- where no two constants have one name, each is found under its name
-each_found : (cs : List ConShape) → AllPairs (λ a b. a ≢ b) (map (λ c. c.sym) cs) → All (λ c. constant_in cs c.sym ≡ Some c.sort) cs
+pub each_found : (cs : List ConShape) → AllPairs (λ a b. a ≢ b) (map (λ c. c.sym) cs) → All (λ c. constant_in cs c.sym ≡ Some c.sort) cs
 each_found [] h = All-nil (λ c. constant_in [] c.sym ≡ Some c.sort)
 each_found (c ∷ cs) h = All-cons (λ x. constant_in (c ∷ cs) x.sym ≡ Some x.sort) c cs
     (rw (sym_eq-refl c.sym) refl)
@@ -192,3 +183,13 @@ sound-tables_of voc m proper is = record {
       (each_found voc.constants (later_differ (map (λ r. r.sym) voc.relations) (map (λ c. c.sym) voc.constants) proper.differ) k d lt));
   differ = subst (λ names. AllPairs (λ a b. a ≢ b) names) (sym (ap₂ (λ xs ys. xs ++ ys) (names_after m voc.relations) (constant_names_after m voc.constants))) proper.differ;
 }
+
+-- what code makes of a structure over a sound vocabulary is sound
+pub told_is_sound : (voc : Vocabulary) (m : Meaning) (sizes : List ℕ) (relations : List Relation) (constants : List Constant)
+    → vocabularies.IsSound voc → IsStructureOf voc m
+    → sizes ≡ sizes_from m 0 voc.sorts → relations ≡ map (relation_table m) voc.relations → constants ≡ map (constant_entry m) voc.constants
+    → IsSound (record { sizes = sizes; relations = relations; constants = constants })
+told_is_sound voc m sizes relations constants sound is a b c = rw (a, b, c) (sound-tables_of voc m proper is)
+  where
+    proper : IsProper voc
+    proper = record { differ = sound.differ; relations = λ k d l. (sound.relations k d l).1; constants = sound.constants }

@@ -1,3 +1,4 @@
 pub mod Changes
 pub mod Compare
 pub mod Tables
+pub mod Tabulation

@@ -7,8 +7,11 @@
 
 mod changes;
 mod compare;
+mod interpretation;
 mod structure;
 mod tables;
+mod tabulation;
 mod tuples;
 
+pub use interpretation::Interpretation;
 pub use structure::Structure;

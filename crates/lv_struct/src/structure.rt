@@ -3,14 +3,17 @@ ghost use Rattle.std.specs.Option.{ForSome};
 ghost use Rattle.lv_formula.specs.Vocabulary as vocabularies;
 ghost use Rattle.lv_struct.specs.Changes.{empty_structure, with_tuples, with_element};
 ghost use Rattle.lv_struct.specs.Compare.{IsSame, has_vocabulary, tables_eq};
-ghost use Rattle.lv_formula.specs.Meaning.{in_range};
+ghost use Rattle.lv_formula.specs.Meaning.{IsStructureOf, in_range};
 ghost use Rattle.lv_struct.specs.Tables.{HasVocabulary, IsInRange, IsSound, holds_in, meaning, size_in, size_of, sort_in, sorts_in, tuples_in, value_in};
+ghost use Rattle.lv_struct.specs.Tabulation.{tables_of};
 ghost use Rattle.lv_formula.specs.Tuples.{has_tuple, tuple_lt, tuples_over};
 
 use crate::changes::{copy_relations, empty_relations, first_elements, put_constant, put_relation};
 use crate::compare::pair_up;
+use crate::interpretation::Interpretation;
 use crate::tables::{Constant, Relation};
-use crate::tuples::{contains_tuple, copy, empty_tuple, put_each_before};
+use crate::tabulation::{constants, relations, sizes, tuples_of_sorts};
+use crate::tuples::{contains_tuple, copy};
 use lv_formula::{List, Memory, SortId, Sym, Vocabulary};
 use std::alloc::Global;
 use std::marker::Model;
@@ -48,6 +51,27 @@ impl Structure {
         let sizes = copy(alloc, sizes)?;
         let relations = empty_relations(alloc, voc.relations.as_slice())?;
         let constants = first_elements(alloc, voc.constants.as_slice())?;
+        Ok(Structure {
+            sizes,
+            relations,
+            constants,
+        })
+    }
+
+    /// The tables over the vocabulary of a structure that is known as functions: they have the vocabulary, and agree
+    /// with the structure on what it names. The error is want of memory.
+    pub fn tabulate<I: Interpretation>(
+        alloc: Global,
+        voc: &Vocabulary,
+        of: &I,
+    ) -> Result<Structure, Memory>
+        requires sound { vocabularies.IsSound voc.now }
+        requires structure { IsStructureOf voc.now (I.meaning of.now) }
+        ensures { IfOk result (λ m. m ≡ tables_of voc.now (I.meaning of.now)) }
+    {
+        let sizes = sizes(alloc, voc.sorts, of)?;
+        let relations = relations(alloc, voc.relations.as_slice(), of)?;
+        let constants = constants(alloc, voc.constants.as_slice(), of)?;
         Ok(Structure {
             sizes,
             relations,
@@ -199,10 +223,24 @@ impl Structure {
     fn tuples_over(&self, alloc: Global, sorts: &[SortId]) -> Result<List<List<u32>>, Memory>
         ensures { IfOk result (λ ts. ts ≡ tuples_over (size_in self.now) sorts.now) }
     {
-        let mut all = empty_tuple(alloc)?;
-        for i in (0..sorts.len()).rev() {
-            all = put_each_before(alloc, self.size(sorts[i]), all.as_slice())?;
-        }
-        Ok(all)
+        tuples_of_sorts(alloc, sorts, self)
+    }
+}
+
+impl Interpretation for Structure {
+    ghost use Rattle.lv_struct.specs.Tables.{meaning};
+
+    ghost meaning = { meaning };
+
+    fn size(&self, sort: SortId) -> u32 {
+        self.size(sort)
+    }
+
+    fn holds(&self, sym: Sym, tuple: &[u32]) -> bool {
+        self.holds(sym, tuple)
+    }
+
+    fn value(&self, sym: Sym) -> u32 {
+        self.value(sym)
     }
 }

@@ -15,7 +15,8 @@ use Rattle.lv_formula.proofs.Folds.{folds_at}
 use Rattle.lv_formula.specs.Meaning.{AgreeOn, IsStructureOf, Meaning, in_range, is_element}
 use Rattle.lv_struct.specs.Tables.{IsSound, Tables, meaning}
 use Rattle.lv_formula.specs.Tuples.{over}
-use Rattle.lv_struct.proofs.Tabulate.{agrees-tables_of, holds-tables_of, sound-tables_of, tables_of, vocabulary-tables_of}
+use Rattle.lv_struct.specs.Tabulation.{tables_of}
+use Rattle.lv_struct.proofs.Tabulate.{agrees-tables_of, holds-tables_of, sound-tables_of, vocabulary-tables_of}
 use Rattle.lv_formula.specs.Truth.{all_true_in, truth_in}
 use Rattle.lv_formula.proofs.AgreeLaw.{truth_agrees}
 use Rattle.lv_system.specs.declared.parts.Action.{Action}

@@ -15,7 +15,8 @@ use Rattle.lv_formula.specs.Symbols.{sym_eq}
 use Rattle.lv_formula.proofs.Folds as FF
 use Rattle.lv_formula.proofs.TemporalFolds as TF
 use Rattle.lv_formula.specs.Meaning.{IsStructureOf, Meaning, in_range}
-use Rattle.lv_struct.proofs.Tabulate.{tables_of, vocabulary-tables_of}
+use Rattle.lv_struct.specs.Tabulation.{tables_of}
+use Rattle.lv_struct.proofs.Tabulate.{vocabulary-tables_of}
 use Rattle.lv_struct.specs.Tables.{meaning}
 use Rattle.lv_formula.specs.Truth.{all_true_in, truth_in}
 use Rattle.lv_system.specs.declared.parts.Invariant.{Invariant}
