@@ -1,0 +1,14 @@
+pub mod Counted
+pub mod Growing
+pub mod Known
+pub mod Listed
+pub mod Loops
+pub mod Making
+pub mod Marks
+pub mod Positions
+pub mod Props
+pub mod Shapes
+pub mod Standing
+pub mod Starts
+pub mod Walk
+pub mod Whole

@@ -1,0 +1,4 @@
+//! Sentences and their ground clauses.
+#![tactic(auto)]
+
+pub mod laws;

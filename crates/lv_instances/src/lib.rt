@@ -1,0 +1,4 @@
+//! Ground instances of sentences, in the structures in which the sentences hold.
+#![tactic(auto)]
+
+pub mod laws;
