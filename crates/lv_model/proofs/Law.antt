@@ -12,12 +12,13 @@ use Rattle.lv_cnf.specs.Literals.{Satisfies}
 use Rattle.lv_cnf.specs.Nodes.{PlainProps, plains, clauses_of}
 use Rattle.lv_places.specs.declared.skolem.Skolem.{Skolem}
 use Rattle.lv_places.specs.declared.terms.GroundTerm.{GroundTerm}
+use Rattle.lv_places.specs.declared.grounded.Grounded.{Grounded}
 use Rattle.lv_places.specs.declared.grounded.GroundAtom.{GroundAtom}
 use Rattle.lv_places.specs.Forms.{forms_of}
 use Rattle.lv_places.specs.GroundForms.{naming_of, holds_all}
 use Rattle.lv_places.specs.Sizes.{at_least_one}
 use Rattle.lv_places.specs.Universes.{counts, constant_terms, place_terms, or_extra, constant_id, IsUniverse}
-use Rattle.lv_places.specs.Grounds.{find_atom, trees_of, atoms_of, atom_truth, all_numbered}
+use Rattle.lv_places.specs.Grounds.{find_atom, trees_of, atoms_of, atom_truth, all_numbered, IsGrounded}
 use Rattle.lv_places.specs.Equality.{all_ground_true, each_of, sort_clauses, relation_clauses, equality_clauses}
 use Rattle.lv_places.proofs.Tests.{either}
 use Rattle.lv_skolem.proofs.Sorted.{vocabulary_of}
@@ -56,7 +57,7 @@ some_element zero = omega arith
 some_element (suc k) = omega arith
 
 -- each sort of a universe has a term
-some_term : (sk : Skolem) (u : List (List GroundTerm)) → IsUniverse sk u → (s : SortId) → s.0 < sk.sorts → 0 < counts u s
+pub some_term : (sk : Skolem) (u : List (List GroundTerm)) → IsUniverse sk u → (s : SortId) → s.0 < sk.sorts → 0 < counts u s
 some_term sk u is s l =
     let e = ap length (is.terms s l) in
     omega (arith, e, extra_some (constant_terms s sk.constants ++ place_terms (counts u) s 0 sk.places))
@@ -94,6 +95,27 @@ at_most : (k n : ℕ) → k ≤ n → 0 < n → at_least_one k ≤ n
 at_most zero n h l = omega arith
 at_most (suc k) n h l = h
 
+-- the ground forms and the equality clauses are true
+satisfied : (sk : Skolem) (u : List (List GroundTerm)) (g : Grounded) → IsGrounded sk u g
+    → (a : ℕ → Bool) → Satisfies a (clauses_of (length g.atoms) (plains g.roots) g.equalities)
+    → (holds_all (atom_truth g.atoms a) (trees_of sk u) ≡ true) × (all_ground_true (atom_truth g.atoms a) (equality_clauses sk (counts u)) ≡ true)
+satisfied sk u g grounded a h =
+    let h1 = subst (λ k. Satisfies a (clauses_of k (plains g.roots) g.equalities)) (ap length grounded.atoms) h in
+    let h2 = subst (λ (r : PlainProps). Satisfies a (clauses_of (length (atoms_of sk u)) r g.equalities)) grounded.roots h1 in
+    let h3 = subst (λ (e : List (List Lit)). Satisfies a
+    (clauses_of (length (atoms_of sk u)) (all_numbered (find_atom (atoms_of sk u)) (trees_of sk u)) e)) grounded.equalities h2 in
+    let r = from_assignment sk u a h3 in (
+      subst (λ (l : List GroundAtom). holds_all (atom_truth l a) (trees_of sk u) ≡ true) (sym grounded.atoms) r.0,
+      subst (λ (l : List GroundAtom). all_ground_true (atom_truth l a) (equality_clauses sk (counts u)) ≡ true) (sym grounded.atoms) r.1,
+    )
+
+-- equality is an equivalence on the terms of each sort
+pub equality_is_equivalence : (sk : Skolem) (u : List (List GroundTerm)) (g : Grounded) → IsUniverse sk u → IsGrounded sk u g
+    → (a : ℕ → Bool) → Satisfies a (clauses_of (length g.atoms) (plains g.roots) g.equalities)
+    → (s : SortId) → IsEquivalence (equal_in (atom_truth g.atoms a) s) (counts u s)
+equality_is_equivalence sk u g universe grounded a h =
+    equivalences sk u (atom_truth g.atoms a) universe (satisfied sk u g grounded a h).1
+
 pub assignments_give_structures : AssignmentsGiveStructures
 assignments_give_structures voc s sk u g sound fit is universe grounded a h =
     let n = counts u in
@@ -102,13 +124,9 @@ assignments_give_structures voc s sk u g sound fit is universe grounded a h =
     let low = vocabulary_of sk in
     let range = is_ranged voc s sk sound fit is in
     let sites = table voc s sk sound fit is in
-    let h1 = subst (λ k. Satisfies a (clauses_of k (plains g.roots) g.equalities)) (ap length grounded.atoms) h in
-    let h2 = subst (λ (r : PlainProps). Satisfies a (clauses_of (length (atoms_of sk u)) r g.equalities)) grounded.roots h1 in
-    let h3 = subst (λ (e : List (List Lit)). Satisfies a
-    (clauses_of (length (atoms_of sk u)) (all_numbered (find_atom (atoms_of sk u)) (trees_of sk u)) e)) grounded.equalities h2 in
-    let r = from_assignment sk u a h3 in
-    let r0 = subst (λ (l : List GroundAtom). holds_all (atom_truth l a) (trees_of sk u) ≡ true) (sym grounded.atoms) r.0 in
-    let r1 = subst (λ (l : List GroundAtom). all_ground_true (atom_truth l a) (equality_clauses sk n) ≡ true) (sym grounded.atoms) r.1 in
+    let r = satisfied sk u g grounded a h in
+    let r0 = r.0 in
+    let r1 = r.1 in
     let eqv = equivalences sk u v universe r1 in
     let c = all_both v (each_of 0 sk.sorts (λ i. sort_clauses (record { 0 = i }) (n (record { 0 = i })))) _ r1 in
     let c2 = all_both v (relation_clauses n sk.relations) _ c.1 in

@@ -59,7 +59,7 @@ as_numbered : (n : SortId → ℕ) (P : TermId → Type 0) (s : SortId) (t : Ter
 as_numbered n P s t is h = subst P (ap (λ z. term z t.place) (sym is.sort_is)) (h t.place is.within)
 
 module _ (sk : Skolem) (n : SortId → ℕ) (v : GroundAtom → Bool) (eqv : (s : SortId) → IsEquivalence (equal_in v s) (n s)) where
-  first_term_is : (s : SortId) (e : ℕ) → e < classes (equal_in v s) (n s) → IsTerm n s (term s (member_of (equal_in v s) (n s) e))
+  pub first_term_is : (s : SortId) (e : ℕ) → e < classes (equal_in v s) (n s) → IsTerm n s (term s (member_of (equal_in v s) (n s) e))
   first_term_is s e l = record { sort_is = refl; within = (member_is (equal_in v s) (n s) (eqv s) e l).0 }
 
   class_within : (s : SortId) (t : TermId) → IsTerm n s t → term_class v t < classes (equal_in v s) (n s)
@@ -116,7 +116,7 @@ module _ (sk : Skolem) (n : SortId → ℕ) (v : GroundAtom → Bool) (eqv : (s 
   at_least zero = omega arith
   at_least (suc k) = omega arith
 
-  no_more : (k : ℕ) → 0 < k → at_least_one k ≡ k
+  pub no_more : (k : ℕ) → 0 < k → at_least_one k ≡ k
   no_more zero l = absurd (omega arith)
   no_more (suc k) l = refl
 

@@ -10,7 +10,7 @@ count_more : (n : ℕ) (p : ℕ → Bool) → count_below n p ≤ count_below (s
 count_more n p = by_cases (p n) (λ e. let q = cond-true (p n) (suc (count_below n p)) (count_below n p) e in omega arith)
     (λ e. let q = cond-false (p n) (suc (count_below n p)) (count_below n p) e in omega arith)
 
-count_lt : (n i : ℕ) (p : ℕ → Bool) → i < n → p i ≡ true → count_below i p < count_below n p
+pub count_lt : (n i : ℕ) (p : ℕ → Bool) → i < n → p i ≡ true → count_below i p < count_below n p
 count_lt zero i p l h = absurd (omega arith)
 count_lt (suc n) i p l h =
     either (cases_eq i n)
