@@ -1,0 +1,106 @@
+-- What the words of a call ask for, by `clap`'s own meaning of a command and its words.
+use Rattle.std.specs.Prelude.{◌≡◌, ◌↔◌, ◌⊎◌, ◌≤◌, ℕ, true, false, List, [], ◌∷◌, ◌++◌, Option, Some, None, pos, if◌then◌else◌, codes, option_and_then}
+use Rattle.std.specs.Option.{option_map_or}
+use Rattle.std.specs.Str.{bytes_eq}
+use Rattle.std.specs.Str.Parse.{IsNumeral, digits_value, without_leading_plus}
+use Rattle.clap.specs.Words.{App, Row, Rule, Text, new_app, new_rule, one_of, subcommand_of, takes, with_rule, with_subcommand}
+use Rattle.clap.specs.Simple.{new_shape, on_top}
+use Rattle.clap.specs.declared.builder.value_parser.ValueParser.TheVariants as parsers
+use Rattle.lv_command.specs.declared.mode.Mode.{Mode}
+use Rattle.lv_command.specs.declared.mode.Mode.TheVariants.{Prove, Show}
+
+-- ---- the command
+
+-- the option `--budget` with a number from 1 to 1,000,000
+abbrev pub budget_rule : Rule
+budget_rule = record (new_rule (codes "budget")) {
+  long = Some (codes "budget");
+  parser = Some (parsers.Signed (pos 1) (pos 1000000));
+}
+
+abbrev pub prove_command : App
+prove_command = with_rule (new_app (codes "prove")) budget_rule
+
+-- the command, which has no flags and wants one of its two subcommands
+abbrev pub the_command : App
+the_command =
+    let leadsto = on_top (λ shape. record shape {
+      no_binary_name = true;
+      subcommand_required = true;
+      disable_help_flag = true;
+      disable_help_subcommand = true;
+      disable_version_flag = true;
+    }) (new_app (codes "leadsto")) in
+    with_subcommand (with_subcommand leadsto prove_command.top) (new_shape (codes "show"))
+
+-- ---- the mode
+
+-- the number that decimal digits write, behind a `+` or without one
+abbrev pub number_of : List ℕ → ℕ
+number_of text = digits_value 10 (without_leading_plus text)
+
+-- such a number from 1 to 1,000,000
+pub record IsBudget (text : List ℕ) : Type 0 where
+  pub digits : IsNumeral 10 (without_leading_plus text)
+  pub least : 1 ≤ number_of text
+  pub most : number_of text ≤ 1000000
+
+-- the budget among what was read behind `prove`, and 100,000 where none was
+abbrev pub budget_of : List Row → ℕ
+budget_of rows = option_map_or number_of (one_of (codes "budget") rows) 100000
+
+-- the mode of the subcommand with this name and what was read behind it
+abbrev pub mode_named : Text × List Row → Option Mode
+mode_named met =
+    if bytes_eq met.0 (codes "prove") then Some (Prove (budget_of met.1))
+    else if bytes_eq met.0 (codes "show") then Some Show
+    else None
+
+-- the mode of the subcommand that the words name, where the command takes the words
+unfoldable pub mode_of : List (List ℕ) → Option Mode
+mode_of words = if takes the_command words then option_and_then mode_named (subcommand_of the_command words) else None
+
+-- the budget of a mode is one that the command takes
+abbrev pub IsInRange : Mode → Type 0
+IsInRange (Prove budget) = (1 ≤ budget) × (budget ≤ 1000000)
+IsInRange Show = Unit {0}
+
+-- a budget that was read is a number that the command takes
+abbrev pub HasReadBudget : List Row → Type 0
+HasReadBudget rows = (text : List ℕ) → one_of (codes "budget") rows ≡ Some text → IsBudget text
+
+-- ---- the laws
+
+-- the words `prove` and `show` ask for their modes, and no words ask for none
+abbrev pub NamesEachMode : Type 0
+NamesEachMode = (mode_of (codes "prove" ∷ []) ≡ Some (Prove 100000))
+    × (mode_of (codes "prove" ∷ codes "--budget" ∷ codes "7" ∷ []) ≡ Some (Prove 7))
+    × (mode_of (codes "prove" ∷ codes "--budget=7" ∷ []) ≡ Some (Prove 7))
+    × (mode_of (codes "show" ∷ []) ≡ Some Show)
+    × (mode_of [] ≡ None)
+    × (mode_of (codes "prove" ∷ codes "--budget=0" ∷ []) ≡ None)
+    × (mode_of (codes "prove" ∷ codes "--budget=1000001" ∷ []) ≡ None)
+
+-- these words, with at most `--` behind them
+abbrev pub EndIn : List (List ℕ) → List (List ℕ) → Type 0
+EndIn front words = (words ≡ front) ⊎ (words ≡ front ++ codes "--" ∷ [])
+
+-- `prove` with this budget behind it, in one of the two spellings
+pub record GiveBudget (budget : ℕ) (words : List (List ℕ)) : Type 0 where
+  pub text : List ℕ
+  pub is_budget : IsBudget text
+  pub is : budget ≡ number_of text
+  pub spelled : EndIn (codes "prove" ∷ codes "--budget" ∷ text ∷ []) words ⊎ EndIn (codes "prove" ∷ (codes "--budget=" ++ text) ∷ []) words
+
+-- a proof is asked for by `prove` alone, with the usual budget, or with a budget behind it
+abbrev pub AsksToProve : Type 0
+AsksToProve = (words : List (List ℕ)) (budget : ℕ)
+    → (mode_of words ≡ Some (Prove budget)) ↔ (((budget ≡ 100000) × EndIn (codes "prove" ∷ []) words) ⊎ GiveBudget budget words)
+
+-- the layout is asked for by `show` alone
+abbrev pub AsksToShow : Type 0
+AsksToShow = (words : List (List ℕ)) → (mode_of words ≡ Some Show) ↔ EndIn (codes "show" ∷ []) words
+
+-- no mode is asked for exactly where the command doesn't take the words
+abbrev pub AsksWhereTaken : Type 0
+AsksWhereTaken = (words : List (List ℕ)) → (mode_of words ≡ None) ↔ (takes the_command words ≡ false)
