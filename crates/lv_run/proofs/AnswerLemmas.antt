@@ -1,18 +1,31 @@
 -- From the answer to a system, or to a refusal, to the answer to the bytes.
-use Rattle.std.proofs.Common.{◌≡◌, ℕ, List, Option, Some, true, Result, Ok, Err, refl}
+use Rattle.std.proofs.Common.{◌≡◌, ◌≤◌, ℕ, leb, List, [], ◌∷◌, length, Option, Some, true, Result, Ok, Err, refl, sym, subst}
+use Rattle.std.specs.List.{All}
+use Rattle.std.proofs.lemmas.Bool.{and_parts, leb-true}
+use Rattle.std.proofs.lemmas.List.Elements.{All-cons, All-nil}
 use Rattle.std.specs.Prelude.{IfOk}
 use Rattle.lv_tree.specs.declared.fault.TreeFault.{TreeFault}
 use Rattle.lv_tree.specs.declared.fault.TreeFault.TheVariants as T
 use Rattle.lv_tree.specs.Reading.{IsFault}
 use Rattle.lv_formula.specs.declared.memory.Memory.{Memory}
 use Rattle.lv_system.specs.declared.parts.Parts.{Parts}
+use Rattle.lv_grammar.specs.LabelLimits.{are_narrow, labels_keep_limits}
 use Rattle.lv_grammar.specs.Spelling.{Spells}
+use Rattle.lv_labels.specs.declared.key.Key.{Key}
+use Rattle.lv_labels.specs.Labels.{labels_of}
+use Rattle.lv_labels.specs.Obligations.{InvariantsFit}
+use Rattle.lv_headline.proofs.Spoken.{invariants_stand}
+use Rattle.lv_oblig.specs.Numbers.{AreNarrow}
+use Rattle.lv_prove.specs.declared.outcome.Outcome.{Outcome}
+use Rattle.lv_prove.specs.declared.outcome.Outcome.TheVariants as O
+use Rattle.lv_prove.specs.Outcomes.{IsOutcome}
 use Rattle.lv_run.specs.declared.answer.Composed.{Composed}
-use Rattle.lv_run.specs.declared.mode.Mode.{Mode}
+use Rattle.lv_command.specs.declared.mode.Mode.{Mode}
+use Rattle.lv_command.specs.declared.mode.Mode.TheVariants.{Prove}
 use Rattle.lv_run.specs.declared.detail.Detail.{Detail}
 use Rattle.lv_run.specs.declared.reader.Refusal.{Refusal}
 use Rattle.lv_run.specs.declared.reader.Refusal.TheVariants as R
-use Rattle.lv_run.specs.Answers.{NoTree, NoSystem, OneSystem, IsRefused, IsSystemAnswer, IsRefusal, IsAnswered}
+use Rattle.lv_run.specs.Answers.{NoTree, NoSystem, OneSystem, CanBeReported, IsRefused, IsSystemAnswer, IsRefusal, IsAnswered, detail_of, system_report}
 
 -- a fault that isn't want of memory is the bytes' own
 pub own_fault : (e : TreeFault) (fault : Option TreeFault) → (e ≡ T.Memory → ⊥) → IsFault e fault → fault ≡ Some e
@@ -24,8 +37,49 @@ own_fault (T.Unclosed at) fault other is = is
 own_fault T.Empty fault other is = is
 own_fault T.Memory fault other is = absurd (other refl)
 
+-- the labels of a system that bytes spell keep their limits
+pub keeps_limits : (bytes : List ℕ) (p : Parts) → Spells bytes p → labels_keep_limits p ≡ true
+keeps_limits bytes p s = s.system.labels
+
+-- so they have at most four arguments each
+abbrev IsNarrow : Key → Type 0
+IsNarrow key = length key.sorts ≤ 4
+
+narrow_keys : (keys : List Key) → are_narrow keys ≡ true → All IsNarrow keys
+narrow_keys [] h = All-nil IsNarrow
+narrow_keys (k ∷ ks) h =
+    let both = and_parts (leb (length k.sorts) 4) (are_narrow ks) h in
+    All-cons IsNarrow k ks (leb-true (length k.sorts) 4 both.0) (narrow_keys ks both.1)
+
+pub labels_are_narrow : (p : Parts) → labels_keep_limits p ≡ true → AreNarrow p
+labels_are_narrow p h = narrow_keys (labels_of p) (and_parts (are_narrow (labels_of p)) _ (and_parts (leb (length (labels_of p)) 32) _ h).1).0
+
+-- and its invariants stand over the words of the monitored structure
+pub invariants_fit : (p : Parts) → labels_keep_limits p ≡ true → InvariantsFit p
+invariants_fit = invariants_stand
+
+-- what becomes of the obligations can be reported
+pub can_be_reported : (p : Parts) (budget : ℕ) (outcome : Outcome) → IsOutcome p budget outcome → CanBeReported p outcome
+can_be_reported p budget (O.Proved obligations) h = tt
+can_be_reported p budget (O.Counter index w) h = (h.1.in_range, h.1.breaking.vocabulary)
+can_be_reported p budget (O.NotStratified index sorts) h = h.in_range
+can_be_reported p budget (O.TooLarge index) h = h.in_range
+can_be_reported p budget (O.Spent index log) h = h.1.in_range
+
+-- an outcome with its report is an answer
+pub outcome_answered : (p : Parts) (budget : ℕ) (outcome : Outcome) (d : Detail) (out : List ℕ) → IsOutcome p budget outcome → d ≡ detail_of outcome → out ≡ system_report p (detail_of outcome)
+    → IsSystemAnswer (Prove budget) p d out
+outcome_answered p budget outcome d out h is text = subst (λ x. IsSystemAnswer (Prove budget) p x out) (sym is) (by outcome h text)
+  where
+    by : (outcome : Outcome) → IsOutcome p budget outcome → out ≡ system_report p (detail_of outcome) → IsSystemAnswer (Prove budget) p (detail_of outcome) out
+    by (O.Proved n) h text = (h, text)
+    by (O.Counter index w) h text = (h, text)
+    by (O.NotStratified index sorts) h text = (h, text)
+    by (O.TooLarge index) h text = (h, text)
+    by (O.Spent index log) h text = (h, text)
+
 pub system_answered : (mode : Mode) (bytes : List ℕ) (p : Parts) (r : Result Composed Memory) → Spells bytes p
-    → IfOk r (λ c. IsSystemAnswer mode p c.detail c.out.items) → IfOk r (λ c. IsAnswered mode bytes c.detail c.out.items)
+    → IfOk r (λ c. IsSystemAnswer mode p c.detail c.out) → IfOk r (λ c. IsAnswered mode bytes c.detail c.out)
 system_answered mode bytes p (Ok c) s a = record { reading = OneSystem p; reads = s; is = a.0; report = a.1 }
 system_answered mode bytes p (Err e) s a = tt
 
@@ -35,6 +89,6 @@ refused mode bytes (R.Syntax fault) d out is a = record { reading = NoSystem fau
 refused mode bytes R.Memory d out is a = absurd a
 
 pub refusal_answered : (mode : Mode) (bytes : List ℕ) (refusal : Refusal) (r : Result Composed Memory) → IsRefused bytes refusal
-    → IfOk r (λ c. IsRefusal refusal c.detail c.out.items) → IfOk r (λ c. IsAnswered mode bytes c.detail c.out.items)
-refusal_answered mode bytes refusal (Ok c) is a = refused mode bytes refusal c.detail c.out.items is a
+    → IfOk r (λ c. IsRefusal refusal c.detail c.out) → IfOk r (λ c. IsAnswered mode bytes c.detail c.out)
+refusal_answered mode bytes refusal (Ok c) is a = refused mode bytes refusal c.detail c.out is a
 refusal_answered mode bytes refusal (Err e) is a = tt

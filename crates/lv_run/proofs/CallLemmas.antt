@@ -1,18 +1,20 @@
 -- What follows from the text that was composed and from the answer that came.
-use Rattle.std.proofs.Common.{◌≡◌, ℕ, ◌<◌, ◌≤◌, List, length, Bool, true, false, Option, Some, None, refl, sym, ap, subst, ◌∙◌, arith}
+use Rattle.std.proofs.Common.{◌≡◌, ℕ, ◌<◌, ◌≤◌, List, length, Bool, true, false, Option, Some, None, refl, sym, subst, ◌∙◌, arith}
 use Rattle.std.specs.Prelude.{IfSome}
 use Rattle.std.specs.declared.string.String.{String}
 use Rattle.std.specs.declared.alloc.Global.{Global}
 use Rattle.std.specs.Io.KnownBytes.{IsAtEnd}
 use Rattle.lv_system.specs.declared.parts.Parts.{Parts}
-use Rattle.lv_run.specs.declared.mode.Mode.{Mode}
-use Rattle.lv_run.specs.declared.mode.Mode.TheVariants.{Prove, Show}
+use Rattle.lv_command.specs.declared.mode.Mode.{Mode}
+use Rattle.lv_command.specs.declared.mode.Mode.TheVariants.{Prove, Show}
+use Rattle.lv_struct.specs.Tables.{Tables}
+use Rattle.lv_labels.specs.declared.which.Which.TheVariants.{Catch}
+use Rattle.lv_labels.specs.Obligations.{AreValid}
+use Rattle.lv_prove.specs.Outcomes.{AreValidBefore, IsFirstBroken, IsFirstTooLarge, IsInFragment, IsValidAt, count}
 use Rattle.lv_run.specs.declared.detail.Detail.{Detail}
 use Rattle.lv_run.specs.declared.detail.Detail.TheVariants as D
-use Rattle.lv_run.specs.Obligations.{count, obligation_at, IsValid, AreAllValid, IsFirstBroken}
-use Rattle.lv_run.specs.Form.{has_form}
 use Rattle.lv_run.specs.Answers.{Reading, NoTree, NoSystem, OneSystem, Reads, IsVerdict, IsAnswer, IsAnswered}
-use Rattle.lv_run.specs.Calls.{AskFor, AreCommand, AreNoCommand, AreRead, IsReadAnswer, IsComposed, IsRead, HasAnswer, IsCaused, HasReason, IsLeft, IsOrFault, IsCounterAt, IsUsageOrFault}
+use Rattle.lv_run.specs.Calls.{AskFor, AreCommand, AreNoCommand, AreRead, IsReadAnswer, IsComposed, IsRead, HasAnswer, IsCaused, HasReason, IsLeft, IsOrFault, IsCounterOrSpent, IsEnough, IsNotSpent, IsProvedOrSpent, IsUsageOrFault}
 use Rattle.lv_run.proofs.ReadingLemmas.{one_reading}
 
 -- ---- which answers a text has
@@ -20,8 +22,10 @@ use Rattle.lv_run.proofs.ReadingLemmas.{one_reading}
 -- the answers that are given to a text which was read
 abbrev to_text : Detail → Bool
 to_text (D.Proved n) = true
-to_text (D.Counter i vs) = true
-to_text D.Unsupported = true
+to_text (D.Counter i w) = true
+to_text (D.NotStratified i ss) = true
+to_text (D.TooLarge i) = true
+to_text (D.Spent i log) = true
 to_text D.Shown = true
 to_text (D.TreeRefused f) = true
 to_text (D.SyntaxRefused f) = true
@@ -31,23 +35,25 @@ to_text D.ReadFault = false
 to_text D.WriteFault = false
 to_text D.MemoryWanting = false
 
-verdict_to_text : (p : Parts) (d : Detail) → IsVerdict p d → to_text d ≡ true
-verdict_to_text p (D.Proved n) v = refl
-verdict_to_text p (D.Counter i vs) v = refl
-verdict_to_text p D.Unsupported v = refl
-verdict_to_text p D.Shown v = absurd v
-verdict_to_text p (D.TreeRefused f) v = absurd v
-verdict_to_text p (D.SyntaxRefused f) v = absurd v
-verdict_to_text p D.Usage v = absurd v
-verdict_to_text p D.TooLong v = absurd v
-verdict_to_text p D.ReadFault v = absurd v
-verdict_to_text p D.WriteFault v = absurd v
-verdict_to_text p D.MemoryWanting v = absurd v
+verdict_to_text : (p : Parts) (budget : ℕ) (d : Detail) → IsVerdict p budget d → to_text d ≡ true
+verdict_to_text p budget (D.Proved n) v = refl
+verdict_to_text p budget (D.Counter i w) v = refl
+verdict_to_text p budget (D.NotStratified i ss) v = refl
+verdict_to_text p budget (D.TooLarge i) v = refl
+verdict_to_text p budget (D.Spent i log) v = refl
+verdict_to_text p budget D.Shown v = absurd v
+verdict_to_text p budget (D.TreeRefused f) v = absurd v
+verdict_to_text p budget (D.SyntaxRefused f) v = absurd v
+verdict_to_text p budget D.Usage v = absurd v
+verdict_to_text p budget D.TooLong v = absurd v
+verdict_to_text p budget D.ReadFault v = absurd v
+verdict_to_text p budget D.WriteFault v = absurd v
+verdict_to_text p budget D.MemoryWanting v = absurd v
 
 answer_to_text : (mode : Mode) (r : Reading) (d : Detail) → IsAnswer mode r d → to_text d ≡ true
 answer_to_text mode (NoTree f) d a = rw a refl
 answer_to_text mode (NoSystem f) d a = rw a refl
-answer_to_text Prove (OneSystem p) d a = verdict_to_text p d a
+answer_to_text (Prove budget) (OneSystem p) d a = verdict_to_text p budget d a
 answer_to_text Show (OneSystem p) d a = rw a refl
 
 untrue : false ≡ true → ⊥
@@ -59,8 +65,10 @@ pub composed : (words : List (String Global)) (left : Option (List ℕ)) (mode :
 composed words left mode bytes d out asked read a = by d (answer_to_text mode a.reading d a.is) (record { mode = mode; asked = asked; bytes = bytes; read = read; answered = a }) where
   by : (d : Detail) → to_text d ≡ true → IsReadAnswer words left d out → IsComposed words left d out
   by (D.Proved n) e i = i
-  by (D.Counter j vs) e i = i
-  by D.Unsupported e i = i
+  by (D.Counter j w) e i = i
+  by (D.NotStratified j ss) e i = i
+  by (D.TooLarge j) e i = i
+  by (D.Spent j log) e i = i
   by D.Shown e i = i
   by (D.TreeRefused f) e i = i
   by (D.SyntaxRefused f) e i = i
@@ -79,8 +87,10 @@ pub left_at_end : (mode : Mode) (bytes : List ℕ) (d : Detail) (out : List ℕ)
 left_at_end mode bytes d out before now a end = by d (answer_to_text mode a.reading d a.is) where
   by : (d : Detail) → to_text d ≡ true → IsLeft d before now
   by (D.Proved n) e = end
-  by (D.Counter j vs) e = end
-  by D.Unsupported e = end
+  by (D.Counter j w) e = end
+  by (D.NotStratified j ss) e = end
+  by (D.TooLarge j) e = end
+  by (D.Spent j log) e = end
   by D.Shown e = end
   by (D.TreeRefused f) e = end
   by (D.SyntaxRefused f) e = end
@@ -105,8 +115,10 @@ caused words left d out a = record {
 
 pub reason : (words : List (String Global)) (left : Option (List ℕ)) (d : Detail) (out : List ℕ) → IsComposed words left d out → HasReason words left d
 reason words left (D.Proved n) out c = caused words left _ out c
-reason words left (D.Counter i vs) out c = caused words left _ out c
-reason words left D.Unsupported out c = caused words left _ out c
+reason words left (D.Counter i w) out c = caused words left _ out c
+reason words left (D.NotStratified i ss) out c = caused words left _ out c
+reason words left (D.TooLarge i) out c = caused words left _ out c
+reason words left (D.Spent i log) out c = caused words left _ out c
 reason words left D.Shown out c = caused words left _ out c
 reason words left (D.TreeRefused f) out c = caused words left _ out c
 reason words left (D.SyntaxRefused f) out c = caused words left _ out c
@@ -130,8 +142,10 @@ same_mode words m n a b = let same : Some m ≡ Some n = sym a ∙ b in cc
 
 pub only_usage : (words : List (String Global)) (left : Option (List ℕ)) (d : Detail) → HasReason words left d → AreNoCommand words → IsUsageOrFault d
 only_usage words left (D.Proved n) r other = absurd (asked_for_one words r.mode r.asked other)
-only_usage words left (D.Counter i vs) r other = absurd (asked_for_one words r.mode r.asked other)
-only_usage words left D.Unsupported r other = absurd (asked_for_one words r.mode r.asked other)
+only_usage words left (D.Counter i w) r other = absurd (asked_for_one words r.mode r.asked other)
+only_usage words left (D.NotStratified i ss) r other = absurd (asked_for_one words r.mode r.asked other)
+only_usage words left (D.TooLarge i) r other = absurd (asked_for_one words r.mode r.asked other)
+only_usage words left (D.Spent i log) r other = absurd (asked_for_one words r.mode r.asked other)
 only_usage words left D.Shown r other = absurd (asked_for_one words r.mode r.asked other)
 only_usage words left (D.TreeRefused f) r other = absurd (asked_for_one words r.mode r.asked other)
 only_usage words left (D.SyntaxRefused f) r other = absurd (asked_for_one words r.mode r.asked other)
@@ -147,8 +161,10 @@ read_is_few words left d bytes r e long = let few : length bytes ≤ 1048576 = (
 pub only_too_long : (words : List (String Global)) (left : Option (List ℕ)) (d : Detail) → HasReason words left d
     → (bytes : List ℕ) → AreCommand words → left ≡ Some bytes → 1048576 < length bytes → IsOrFault (λ answer. answer ≡ D.TooLong) d
 only_too_long words left (D.Proved n) r bytes w e long = absurd (read_is_few words left _ bytes r e long)
-only_too_long words left (D.Counter i vs) r bytes w e long = absurd (read_is_few words left _ bytes r e long)
-only_too_long words left D.Unsupported r bytes w e long = absurd (read_is_few words left _ bytes r e long)
+only_too_long words left (D.Counter i m) r bytes w e long = absurd (read_is_few words left _ bytes r e long)
+only_too_long words left (D.NotStratified i ss) r bytes w e long = absurd (read_is_few words left _ bytes r e long)
+only_too_long words left (D.TooLarge i) r bytes w e long = absurd (read_is_few words left _ bytes r e long)
+only_too_long words left (D.Spent i log) r bytes w e long = absurd (read_is_few words left _ bytes r e long)
 only_too_long words left D.Shown r bytes w e long = absurd (read_is_few words left _ bytes r e long)
 only_too_long words left (D.TreeRefused f) r bytes w e long = absurd (read_is_few words left _ bytes r e long)
 only_too_long words left (D.SyntaxRefused f) r bytes w e long = absurd (read_is_few words left _ bytes r e long)
@@ -170,8 +186,10 @@ pub only_answer : (words : List (String Global)) (left : Option (List ℕ)) (d :
     → (mode : Mode) (bytes : List ℕ) (reading : Reading) → AskFor mode words → left ≡ Some bytes → length bytes ≤ 1048576 → Reads bytes reading
     → IsOrFault (IsAnswer mode reading) d
 only_answer words left (D.Proved n) r mode bytes reading w e few reads = has_answer words left _ mode bytes reading r w e reads
-only_answer words left (D.Counter i vs) r mode bytes reading w e few reads = has_answer words left _ mode bytes reading r w e reads
-only_answer words left D.Unsupported r mode bytes reading w e few reads = has_answer words left _ mode bytes reading r w e reads
+only_answer words left (D.Counter i m) r mode bytes reading w e few reads = has_answer words left _ mode bytes reading r w e reads
+only_answer words left (D.NotStratified i ss) r mode bytes reading w e few reads = has_answer words left _ mode bytes reading r w e reads
+only_answer words left (D.TooLarge i) r mode bytes reading w e few reads = has_answer words left _ mode bytes reading r w e reads
+only_answer words left (D.Spent i log) r mode bytes reading w e few reads = has_answer words left _ mode bytes reading r w e reads
 only_answer words left D.Shown r mode bytes reading w e few reads = has_answer words left _ mode bytes reading r w e reads
 only_answer words left (D.TreeRefused f) r mode bytes reading w e few reads = has_answer words left _ mode bytes reading r w e reads
 only_answer words left (D.SyntaxRefused f) r mode bytes reading w e few reads = has_answer words left _ mode bytes reading r w e reads
@@ -181,47 +199,80 @@ only_answer words left D.ReadFault r mode bytes reading w e few reads = tt
 only_answer words left D.WriteFault r mode bytes reading w e few reads = tt
 only_answer words left D.MemoryWanting r mode bytes reading w e few reads = tt
 
+-- ---- the answers to a system whose obligations are all decided
+
 -- what breaks an obligation shows that it isn't valid
-invalid : (p : Parts) (index : ℕ) (values : List Bool) → IsFirstBroken p index values → IsValid p (obligation_at p index) → ⊥
-invalid p index values b v =
-    let yes-it-is : true ≡ false = sym b.breaks.broken ∙ v.none values b.breaks.one_each in cc
+invalid : (p : Parts) (index : ℕ) (w : Tables) → IsFirstBroken p index w → IsValidAt p index → ⊥
+invalid p index w b valid = valid w b.breaking.sound b.breaking.vocabulary b.breaking.breaks
 
-no_form : (p : Parts) → has_form p ≡ true → has_form p ≡ false → ⊥
-no_form p a b = let bad : true ≡ false = sym a ∙ b in cc
+valid_at : (p : Parts) → AreValid p → (i : ℕ) → i < count p → IsValidAt p i
+valid_at p valid i l = valid i Catch l
 
-pub only_proved : (p : Parts) (d : Detail) → IsOrFault (IsAnswer Prove (OneSystem p)) d → has_form p ≡ true → AreAllValid p → IsOrFault (λ answer. answer ≡ D.Proved (count p)) d
-only_proved p (D.Proved n) a form valid = ap D.Proved a.2
-only_proved p (D.Counter i vs) a form valid = absurd (invalid p i vs a.1 (valid i a.1.in_range))
-only_proved p D.Unsupported a form valid = absurd (no_form p form a)
-only_proved p D.Shown a form valid = absurd a
-only_proved p (D.TreeRefused f) a form valid = absurd a
-only_proved p (D.SyntaxRefused f) a form valid = absurd a
-only_proved p D.Usage a form valid = absurd a
-only_proved p D.TooLong a form valid = absurd a
-only_proved p D.ReadFault a form valid = tt
-only_proved p D.WriteFault a form valid = tt
-only_proved p D.MemoryWanting a form valid = tt
+-- no obligation is above the limit
+not_large : (p : Parts) (index : ℕ) → IsInFragment p → IsFirstTooLarge p index → ⊥
+not_large p index f a =
+    let small = f.small index a.in_range in
+    let le = small.2 in
+    let gt = a.large small.0 small.1 in
+    absurd (omega (arith, le, gt))
+
+pub only_proved : (p : Parts) (budget : ℕ) (d : Detail) → IsOrFault (IsAnswer (Prove budget) (OneSystem p)) d → IsInFragment p → AreValid p → IsOrFault (IsProvedOrSpent p budget) d
+only_proved p budget (D.Proved n) a f valid = a.2
+only_proved p budget (D.Counter i w) a f valid = absurd (invalid p i w a.1 (valid_at p valid i a.1.in_range))
+only_proved p budget (D.NotStratified i ss) a f valid = absurd (f.stratified i a.in_range (ss, a.cycle))
+only_proved p budget (D.TooLarge i) a f valid = absurd (not_large p i f a)
+only_proved p budget (D.Spent i log) a f valid = a.1
+only_proved p budget D.Shown a f valid = absurd a
+only_proved p budget (D.TreeRefused fault) a f valid = absurd a
+only_proved p budget (D.SyntaxRefused fault) a f valid = absurd a
+only_proved p budget D.Usage a f valid = absurd a
+only_proved p budget D.TooLong a f valid = absurd a
+only_proved p budget D.ReadFault a f valid = tt
+only_proved p budget D.WriteFault a f valid = tt
+only_proved p budget D.MemoryWanting a f valid = tt
 
 -- of two obligations that are the first broken one, neither comes before the other
-not_before : (p : Parts) (i j : ℕ) (us vs : List Bool) → IsFirstBroken p i us → IsFirstBroken p j vs → i < j → ⊥
-not_before p i j us vs a b lt = invalid p i us a (b.earlier i lt)
-
-first_is_one : (p : Parts) (i j : ℕ) (us vs : List Bool) → IsFirstBroken p i us → IsFirstBroken p j vs → i ≡ j
-first_is_one p i j us vs a b =
-    let one : i < j → ⊥ = not_before p i j us vs a b in
-    let other : j < i → ⊥ = not_before p j i vs us b a in
+first_is_one : (p : Parts) (i j : ℕ) (w v : Tables) → IsFirstBroken p i w → IsFirstBroken p j v → i ≡ j
+first_is_one p i j w v a b =
+    let one : i < j → ⊥ = λ l. invalid p i w a (b.earlier i l) in
+    let other : j < i → ⊥ = λ l. invalid p j v b (a.earlier j l) in
     omega (arith, one, other)
 
-pub only_counter : (p : Parts) (d : Detail) (index : ℕ) (values : List Bool) → IsOrFault (IsAnswer Prove (OneSystem p)) d → has_form p ≡ true → IsFirstBroken p index values
-    → IsOrFault (IsCounterAt index) d
-only_counter p (D.Proved n) index values a form broken = absurd (invalid p index values broken (a.1 index broken.in_range))
-only_counter p (D.Counter i vs) index values a form broken = first_is_one p i index vs values a.1 broken
-only_counter p D.Unsupported index values a form broken = absurd (no_form p form a)
-only_counter p D.Shown index values a form broken = absurd a
-only_counter p (D.TreeRefused f) index values a form broken = absurd a
-only_counter p (D.SyntaxRefused f) index values a form broken = absurd a
-only_counter p D.Usage index values a form broken = absurd a
-only_counter p D.TooLong index values a form broken = absurd a
-only_counter p D.ReadFault index values a form broken = tt
-only_counter p D.WriteFault index values a form broken = tt
-only_counter p D.MemoryWanting index values a form broken = tt
+-- where all before one are valid, the broken one doesn't come before it
+not_past : (p : Parts) (n index : ℕ) (w : Tables) → AreValidBefore p n → IsFirstBroken p index w → n ≤ index
+not_past p n index w earlier broken = let one : index < n → ⊥ = λ l. invalid p index w broken (earlier index l) in omega (arith, one)
+
+pub only_counter : (p : Parts) (budget : ℕ) (d : Detail) (index : ℕ) (w : Tables) → IsOrFault (IsAnswer (Prove budget) (OneSystem p)) d → IsInFragment p → IsFirstBroken p index w
+    → IsOrFault (IsCounterOrSpent p budget index) d
+only_counter p budget (D.Proved n) index w a f broken = absurd (invalid p index w broken (valid_at p a.1 index broken.in_range))
+only_counter p budget (D.Counter i v) index w a f broken = first_is_one p i index v w a.1 broken
+only_counter p budget (D.NotStratified i ss) index w a f broken = absurd (f.stratified i a.in_range (ss, a.cycle))
+only_counter p budget (D.TooLarge i) index w a f broken = absurd (not_large p i f a)
+only_counter p budget (D.Spent i log) index w a f broken = (a.1, not_past p i index w a.1.earlier broken)
+only_counter p budget D.Shown index w a f broken = absurd a
+only_counter p budget (D.TreeRefused fault) index w a f broken = absurd a
+only_counter p budget (D.SyntaxRefused fault) index w a f broken = absurd a
+only_counter p budget D.Usage index w a f broken = absurd a
+only_counter p budget D.TooLong index w a f broken = absurd a
+only_counter p budget D.ReadFault index w a f broken = tt
+only_counter p budget D.WriteFault index w a f broken = tt
+only_counter p budget D.MemoryWanting index w a f broken = tt
+
+pub never_spent : (p : Parts) (budget : ℕ) (d : Detail) → IsOrFault (IsAnswer (Prove budget) (OneSystem p)) d → IsEnough p budget → IsNotSpent d
+never_spent p budget (D.Proved n) a enough = tt
+never_spent p budget (D.Counter i w) a enough = tt
+never_spent p budget (D.NotStratified i ss) a enough = tt
+never_spent p budget (D.TooLarge i) a enough = tt
+never_spent p budget (D.Spent i log) a enough =
+    let s = a.1.spent in
+    let some = s.few in
+    let most = enough i a.1.in_range s.clauses s.made in
+    absurd (omega (arith, some, most))
+never_spent p budget D.Shown a enough = tt
+never_spent p budget (D.TreeRefused fault) a enough = tt
+never_spent p budget (D.SyntaxRefused fault) a enough = tt
+never_spent p budget D.Usage a enough = tt
+never_spent p budget D.TooLong a enough = tt
+never_spent p budget D.ReadFault a enough = tt
+never_spent p budget D.WriteFault a enough = tt
+never_spent p budget D.MemoryWanting a enough = tt

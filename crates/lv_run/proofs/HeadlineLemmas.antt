@@ -1,5 +1,5 @@
 -- Where the first byte of a report is `p`, the text was proved.
-use Rattle.std.proofs.Common.{◌≡◌, ◌⊎◌, ℕ, zero, suc, List, [], ◌∷◌, ◌++◌, take, Bool, Option, Some, None, refl, sym, ap, subst, ◌∙◌, arith, inl, inr}
+use Rattle.std.proofs.Common.{◌≡◌, ◌⊎◌, ℕ, zero, suc, List, [], ◌∷◌, ◌++◌, take, true, false, Option, Some, None, refl, sym, ap, subst, ◌∙◌, inl, inr}
 use Rattle.std.specs.Prelude.{IfSome}
 use Rattle.std.specs.declared.string.String.{String}
 use Rattle.std.specs.declared.alloc.Global.{Global}
@@ -9,72 +9,73 @@ use Rattle.lv_system.specs.declared.parts.Parts.{Parts}
 use Rattle.lv_run.specs.declared.detail.Detail.{Detail}
 use Rattle.lv_run.specs.declared.detail.Detail.TheVariants as D
 use Rattle.lv_grammar.specs.Layout.{shown_text}
-use Rattle.lv_run.specs.declared.mode.Mode.{Mode}
-use Rattle.lv_run.specs.declared.mode.Mode.TheVariants.{Prove, Show}
-use Rattle.lv_run.specs.Texts.{counter_text}
+use Rattle.lv_command.specs.declared.mode.Mode.{Mode}
+use Rattle.lv_command.specs.declared.mode.Mode.TheVariants.{Prove, Show}
+use Rattle.lv_prove.specs.declared.outcome.Outcome.TheVariants as O
+use Rattle.lv_prove.specs.Outcomes.{IsOutcome}
+use Rattle.lv_headline.specs.Headline.{IsProved}
+use Rattle.lv_headline.proofs.Sound.{text_proved}
+use Rattle.lv_report.specs.Texts.{begins_with_p}
+use Rattle.lv_syntax.proofs.ReadingLaw.{spells_at_most_one}
 use Rattle.lv_run.specs.Answers.{Reading, NoTree, NoSystem, OneSystem, Reads, IsAnswer, report_of, system_report}
-use Rattle.lv_run.specs.Calls.{AreRead, IsReadAnswer, IsComposed, IsDelivered, HasReason, BeginsWithP, HasProof, told_of}
+use Rattle.lv_run.specs.Calls.{AreRead, IsReadAnswer, IsComposed, IsDelivered, HasReason, BeginsWithP, told_of}
 use Rattle.lv_run.proofs.CallLemmas.{reason}
-
-abbrev tail : List ℕ → List ℕ
-tail [] = []
-tail (x ∷ xs) = xs
 
 -- a text's first byte is the letter `p`
 pub record StartsWithP (text : List ℕ) : Type 0 where
   pub rest : List ℕ
   pub is : text ≡ 112 ∷ rest
 
-counter_starts : (p : Parts) (index : ℕ) (values : List Bool) → counter_text p index values ≡ 99 ∷ tail (counter_text p index values)
-counter_starts p index values = refl
-
-shown_starts : (p : Parts) → shown_text p ≡ 40 ∷ tail (shown_text p)
-shown_starts p = refl
-
-letter_c : (xs ys : List ℕ) → 99 ∷ xs ≡ 112 ∷ ys → ⊥
-letter_c xs ys e = let f : ◌≡◌ {A = ℕ} 99 112 = cc in omega (arith, f)
-
-bracket : (xs ys : List ℕ) → 40 ∷ xs ≡ 112 ∷ ys → ⊥
-bracket xs ys e = let f : ◌≡◌ {A = ℕ} 40 112 = cc in omega (arith, f)
+-- a report that doesn't begin with it
+other_letter : (text : List ℕ) → begins_with_p text ≡ false → StartsWithP text → ⊥
+other_letter text other s = let bad : false ≡ true = sym other ∙ ap begins_with_p s.is in cc
 
 nothing : (ys : List ℕ) → [] ≡ 112 ∷ ys → ⊥
 nothing ys e = cc
 
-told_proof : (left : Option (List ℕ)) (bytes : List ℕ) → AreRead left bytes → HasProof bytes → IfSome left HasProof
+told_proof : (left : Option (List ℕ)) (bytes : List ℕ) → AreRead left bytes → IsProved bytes → IfSome left IsProved
 told_proof None bytes r h = tt
-told_proof (Some told) bytes r h = subst HasProof (sym r.all) h
+told_proof (Some told) bytes r h = subst IsProved (sym r.all) h
+
+-- a text whose system has all its obligations valid is proved
+proof : (p : Parts) (bytes : List ℕ) (budget n : ℕ) → Reads bytes (OneSystem p) → IsOutcome p budget (O.Proved n) → IsProved bytes
+proof p bytes budget n reads a = text_proved bytes p reads (λ other spells. spells_at_most_one bytes other p spells reads) a.1
 
 -- of the reports on a system the one that it is proved begins with `p`
-of_system : (p : Parts) (mode : Mode) (bytes : List ℕ) (d : Detail) → Reads bytes (OneSystem p) → IsAnswer mode (OneSystem p) d → StartsWithP (system_report p d) → HasProof bytes
-of_system p Prove bytes (D.Proved n) reads a s = record { system = p; spells = reads; form = a.0; valid = a.1 }
-of_system p Prove bytes (D.Counter i vs) reads a s = absurd (letter_c _ s.rest (sym (counter_starts p i vs) ∙ s.is))
-of_system p Prove bytes D.Unsupported reads a s = absurd (nothing s.rest s.is)
-of_system p Prove bytes D.Shown reads a s = absurd a
-of_system p Prove bytes (D.TreeRefused f) reads a s = absurd a
-of_system p Prove bytes (D.SyntaxRefused f) reads a s = absurd a
-of_system p Prove bytes D.Usage reads a s = absurd a
-of_system p Prove bytes D.TooLong reads a s = absurd a
-of_system p Prove bytes D.ReadFault reads a s = absurd a
-of_system p Prove bytes D.WriteFault reads a s = absurd a
-of_system p Prove bytes D.MemoryWanting reads a s = absurd a
+of_system : (p : Parts) (mode : Mode) (bytes : List ℕ) (d : Detail) → Reads bytes (OneSystem p) → IsAnswer mode (OneSystem p) d → StartsWithP (system_report p d) → IsProved bytes
+of_system p (Prove budget) bytes (D.Proved n) reads a s = proof p bytes budget n reads a
+of_system p (Prove budget) bytes (D.Counter i w) reads a s = absurd (other_letter _ refl s)
+of_system p (Prove budget) bytes (D.NotStratified i ss) reads a s = absurd (other_letter _ refl s)
+of_system p (Prove budget) bytes (D.TooLarge i) reads a s = absurd (other_letter _ refl s)
+of_system p (Prove budget) bytes (D.Spent i log) reads a s = absurd (other_letter _ refl s)
+of_system p (Prove budget) bytes D.Shown reads a s = absurd a
+of_system p (Prove budget) bytes (D.TreeRefused f) reads a s = absurd a
+of_system p (Prove budget) bytes (D.SyntaxRefused f) reads a s = absurd a
+of_system p (Prove budget) bytes D.Usage reads a s = absurd a
+of_system p (Prove budget) bytes D.TooLong reads a s = absurd a
+of_system p (Prove budget) bytes D.ReadFault reads a s = absurd a
+of_system p (Prove budget) bytes D.WriteFault reads a s = absurd a
+of_system p (Prove budget) bytes D.MemoryWanting reads a s = absurd a
 of_system p Show bytes d reads a s =
     let shown : StartsWithP (shown_text p) = subst (λ x. StartsWithP (system_report p x)) a s in
-    absurd (bracket _ shown.rest (sym (shown_starts p) ∙ shown.is))
+    absurd (other_letter (shown_text p) refl shown)
 
-of_reading : (r : Reading) (mode : Mode) (bytes : List ℕ) (d : Detail) → Reads bytes r → IsAnswer mode r d → StartsWithP (report_of r d) → HasProof bytes
+of_reading : (r : Reading) (mode : Mode) (bytes : List ℕ) (d : Detail) → Reads bytes r → IsAnswer mode r d → StartsWithP (report_of r d) → IsProved bytes
 of_reading (NoTree f) mode bytes d reads a s = absurd (nothing s.rest s.is)
 of_reading (NoSystem f) mode bytes d reads a s = absurd (nothing s.rest s.is)
 of_reading (OneSystem p) mode bytes d reads a s = of_system p mode bytes d reads a s
 
-of_answer : (words : List (String Global)) (left : Option (List ℕ)) (d : Detail) (out : List ℕ) → IsReadAnswer words left d out → StartsWithP out → IfSome left HasProof
+of_answer : (words : List (String Global)) (left : Option (List ℕ)) (d : Detail) (out : List ℕ) → IsReadAnswer words left d out → StartsWithP out → IfSome left IsProved
 of_answer words left d out c s =
     let a = c.answered in
     told_proof left c.bytes c.read (of_reading a.reading c.mode c.bytes d a.reads a.is (subst StartsWithP a.report s))
 
-of_composed : (words : List (String Global)) (left : Option (List ℕ)) (d : Detail) (out : List ℕ) → IsComposed words left d out → StartsWithP out → IfSome left HasProof
+of_composed : (words : List (String Global)) (left : Option (List ℕ)) (d : Detail) (out : List ℕ) → IsComposed words left d out → StartsWithP out → IfSome left IsProved
 of_composed words left (D.Proved n) out c s = of_answer words left _ out c s
-of_composed words left (D.Counter i vs) out c s = of_answer words left _ out c s
-of_composed words left D.Unsupported out c s = of_answer words left _ out c s
+of_composed words left (D.Counter i w) out c s = of_answer words left _ out c s
+of_composed words left (D.NotStratified i ss) out c s = of_answer words left _ out c s
+of_composed words left (D.TooLarge i) out c s = of_answer words left _ out c s
+of_composed words left (D.Spent i log) out c s = of_answer words left _ out c s
 of_composed words left D.Shown out c s = of_answer words left _ out c s
 of_composed words left (D.TreeRefused f) out c s = of_answer words left _ out c s
 of_composed words left (D.SyntaxRefused f) out c s = of_answer words left _ out c s
@@ -110,7 +111,7 @@ delivered_starts composed answered on-out on-err out out' err err' (inr d) b = f
   failed (inr w) = whole_starts out out' on-out w.0 b
 
 pub headline : (words : List (String Global)) (left : Option (List ℕ)) (composed answered : Detail) (on-out : List ℕ) (out out' err err' : Option (List ℕ))
-    → IsComposed words left composed on-out → IsDelivered composed answered on-out (told_of composed) out out' err err' → BeginsWithP out out' → IfSome left HasProof
+    → IsComposed words left composed on-out → IsDelivered composed answered on-out (told_of composed) out out' err err' → BeginsWithP out out' → IfSome left IsProved
 headline words left composed answered on-out out out' err err' c d b =
     of_composed words left composed on-out c (delivered_starts composed answered on-out (told_of composed) out out' err err' d b)
 

@@ -1,10 +1,4 @@
-pub mod ValueLemmas
-pub mod JusticeLemmas
-pub mod SearchLemmas
-pub mod ReadingLemmas
+pub mod AnswerLemmas
 pub mod CallLemmas
 pub mod HeadlineLemmas
-pub mod JudgeLemmas
-pub mod AnswerLemmas
-pub mod CommandLemmas
-pub mod CommandWords
+pub mod ReadingLemmas

@@ -1,5 +1,5 @@
 -- What a text is answered, and why.
-use Rattle.std.specs.Prelude.{◌≡◌, ℕ, true, false, List, [], Some, Err}
+use Rattle.std.specs.Prelude.{◌≡◌, ◌<◌, ℕ, List, [], length, Some, Err}
 use Rattle.lv_tree.specs.declared.tree.Tree.{Tree}
 use Rattle.lv_tree.specs.declared.fault.TreeFault.{TreeFault}
 use Rattle.lv_tree.specs.Spelling.{SpellsTree}
@@ -9,17 +9,17 @@ use Rattle.lv_grammar.specs.Spelling.{Spells}
 use Rattle.lv_syntax.specs.declared.fault.SyntaxFault.{SyntaxFault}
 use Rattle.lv_syntax.specs.Items.{system_of}
 use Rattle.lv_grammar.specs.Layout.{shown_text}
-use Rattle.lv_run.specs.declared.mode.Mode.{Mode}
-use Rattle.lv_run.specs.declared.mode.Mode.TheVariants.{Prove, Show}
+use Rattle.lv_struct.specs.Tables.{HasVocabulary}
+use Rattle.lv_prove.specs.declared.outcome.Outcome.{Outcome}
+use Rattle.lv_prove.specs.declared.outcome.Outcome.TheVariants as O
+use Rattle.lv_prove.specs.Outcomes.{IsOutcome, count, vocabulary_at}
+use Rattle.lv_report.specs.Texts.{countermodel_text, not_stratified_text, proved_text, spent_text, too_large_text}
+use Rattle.lv_command.specs.declared.mode.Mode.{Mode}
+use Rattle.lv_command.specs.declared.mode.Mode.TheVariants.{Prove, Show}
 use Rattle.lv_run.specs.declared.detail.Detail.{Detail}
 use Rattle.lv_run.specs.declared.detail.Detail.TheVariants as D
-use Rattle.lv_run.specs.declared.judge.Judgement.{Judgement}
-use Rattle.lv_run.specs.declared.judge.Judgement.TheVariants as J
 use Rattle.lv_run.specs.declared.reader.Refusal.{Refusal}
 use Rattle.lv_run.specs.declared.reader.Refusal.TheVariants as R
-use Rattle.lv_run.specs.Obligations.{count, AreAllValid, IsFirstBroken}
-use Rattle.lv_run.specs.Form.{has_form}
-use Rattle.lv_run.specs.Texts.{counter_text, proved_text}
 
 -- ---- what bytes come to when they are read
 
@@ -50,32 +50,45 @@ ReadsOne = (bytes : List ℕ) (r s : Reading) → Reads bytes r → Reads bytes 
 
 -- ---- what is answered
 
--- what `prove` answers to a system
-abbrev pub IsVerdict : Parts → Detail → Type 0
-IsVerdict p (D.Proved obligations) = (has_form p ≡ true) × AreAllValid p × (obligations ≡ count p)
-IsVerdict p (D.Counter index values) = (has_form p ≡ true) × IsFirstBroken p index values
-IsVerdict p D.Unsupported = has_form p ≡ false
-IsVerdict p D.Shown = ⊥
-IsVerdict p D.Usage = ⊥
-IsVerdict p D.ReadFault = ⊥
-IsVerdict p D.TooLong = ⊥
-IsVerdict p (D.TreeRefused fault) = ⊥
-IsVerdict p (D.SyntaxRefused fault) = ⊥
-IsVerdict p D.WriteFault = ⊥
-IsVerdict p D.MemoryWanting = ⊥
+-- the answer that an outcome gives
+abbrev pub detail_of : Outcome → Detail
+detail_of (O.Proved obligations) = D.Proved obligations
+detail_of (O.Counter index w) = D.Counter index w
+detail_of (O.NotStratified index sorts) = D.NotStratified index sorts
+detail_of (O.TooLarge index) = D.TooLarge index
+detail_of (O.Spent index log) = D.Spent index log
+
+-- what `prove` answers to a system, with this budget
+abbrev pub IsVerdict : Parts → ℕ → Detail → Type 0
+IsVerdict p budget (D.Proved obligations) = IsOutcome p budget (O.Proved obligations)
+IsVerdict p budget (D.Counter index w) = IsOutcome p budget (O.Counter index w)
+IsVerdict p budget (D.NotStratified index sorts) = IsOutcome p budget (O.NotStratified index sorts)
+IsVerdict p budget (D.TooLarge index) = IsOutcome p budget (O.TooLarge index)
+IsVerdict p budget (D.Spent index log) = IsOutcome p budget (O.Spent index log)
+IsVerdict p budget D.Shown = ⊥
+IsVerdict p budget D.Usage = ⊥
+IsVerdict p budget D.ReadFault = ⊥
+IsVerdict p budget D.TooLong = ⊥
+IsVerdict p budget (D.TreeRefused fault) = ⊥
+IsVerdict p budget (D.SyntaxRefused fault) = ⊥
+IsVerdict p budget D.WriteFault = ⊥
+IsVerdict p budget D.MemoryWanting = ⊥
 
 -- what is answered in a mode, streams that fail and want of memory aside
 abbrev pub IsAnswer : Mode → Reading → Detail → Type 0
 IsAnswer mode (NoTree fault) answer = answer ≡ D.TreeRefused fault
 IsAnswer mode (NoSystem fault) answer = answer ≡ D.SyntaxRefused fault
-IsAnswer Prove (OneSystem p) answer = IsVerdict p answer
+IsAnswer (Prove budget) (OneSystem p) answer = IsVerdict p budget answer
 IsAnswer Show (OneSystem p) answer = answer ≡ D.Shown
 
 -- ---- what is written on standard output
 
 abbrev pub system_report : Parts → Detail → List ℕ
 system_report p (D.Proved obligations) = proved_text obligations
-system_report p (D.Counter index values) = counter_text p index values
+system_report p (D.Counter index w) = countermodel_text p index w
+system_report p (D.NotStratified index sorts) = not_stratified_text p index sorts
+system_report p (D.TooLarge index) = too_large_text p index
+system_report p (D.Spent index log) = spent_text p index (length log)
 system_report p D.Shown = shown_text p
 system_report p _ = []
 
@@ -109,13 +122,10 @@ IsRefused bytes (R.Tree fault) = Reads bytes (NoTree fault)
 IsRefused bytes (R.Syntax fault) = Reads bytes (NoSystem fault)
 IsRefused bytes R.Memory = Unit {0}
 
--- the judgement on a system of the form that is decided
-abbrev pub IsDecided : Parts → Judgement → Type 0
-IsDecided p J.Unsupported = ⊥
-IsDecided p (J.Proved obligations report) = AreAllValid p × (obligations ≡ count p) × (report.items ≡ proved_text obligations)
-IsDecided p (J.Counter index values report) = IsFirstBroken p index values × (report.items ≡ counter_text p index values)
-
-abbrev pub IsJudged : Parts → Judgement → Type 0
-IsJudged p J.Unsupported = has_form p ≡ false
-IsJudged p (J.Proved obligations report) = (has_form p ≡ true) × IsDecided p (J.Proved obligations report)
-IsJudged p (J.Counter index values report) = (has_form p ≡ true) × IsDecided p (J.Counter index values report)
+-- the obligation of an outcome is there, and its structure has the obligation's vocabulary
+abbrev pub CanBeReported : Parts → Outcome → Type 0
+CanBeReported p (O.Proved obligations) = Unit {0}
+CanBeReported p (O.Counter index w) = (index < count p) × HasVocabulary (vocabulary_at p index) w
+CanBeReported p (O.NotStratified index sorts) = index < count p
+CanBeReported p (O.TooLarge index) = index < count p
+CanBeReported p (O.Spent index log) = index < count p

@@ -1,20 +1,20 @@
 -- What a call of the program is answered: the cause of each answer, and what is written.
-use Rattle.std.specs.Prelude.{◌≡◌, ◌⊎◌, ℕ, ◌<◌, ◌≤◌, List, [], ◌∷◌, ◌++◌, length, drop, map, codes, string_bytes, true, Option, Some, None, IfSome}
+use Rattle.std.specs.Prelude.{◌≡◌, ◌⊎◌, ℕ, ◌<◌, ◌≤◌, ◌^◌, List, [], ◌∷◌, ◌++◌, length, drop, map, codes, string_bytes, Option, Some, None, IfSome}
 use Rattle.std.specs.declared.string.String.{String}
 use Rattle.std.specs.declared.alloc.Global.{Global}
 use Rattle.std.specs.Io.KnownBytes.{IsAtEnd}
 use Rattle.lv_edge.specs.Causes.{Rose}
 use Rattle.lv_edge.specs.Streams.{Grows, GrowsByPart, LosesAtMost}
 use Rattle.lv_system.specs.declared.parts.Parts.{Parts}
-use Rattle.lv_grammar.specs.Spelling.{Spells}
-use Rattle.lv_run.specs.declared.mode.Mode.{Mode}
+use Rattle.lv_cnf.specs.declared.clause.Clauses.{Clauses}
+use Rattle.lv_decide.specs.Decisions.{AreGroundClauses}
+use Rattle.lv_prove.specs.Outcomes.{IsFirstSpent, count, sentences_at, vocabulary_at}
+use Rattle.lv_command.specs.declared.mode.Mode.{Mode}
+use Rattle.lv_command.specs.Commands.{mode_of}
 use Rattle.lv_run.specs.declared.detail.Detail.{Detail}
 use Rattle.lv_run.specs.declared.detail.Detail.TheVariants as D
-use Rattle.lv_run.specs.Commands.{mode_of}
-use Rattle.lv_run.specs.Obligations.{AreAllValid}
-use Rattle.lv_run.specs.Form.{has_form}
 use Rattle.lv_run.specs.Answers.{Reading, Reads, IsAnswer, IsAnswered}
-use Rattle.lv_run.specs.Texts.{tree_refusal_text, syntax_refusal_text}
+use Rattle.lv_run.specs.Refusals.{tree_refusal_text, syntax_refusal_text}
 
 -- ---- words
 
@@ -41,29 +41,33 @@ AreNoCommand words = mode_in words ≡ None
 abbrev pub status_of : Detail → ℕ
 status_of (D.Proved obligations) = 0
 status_of D.Shown = 0
-status_of (D.Counter index values) = 1
+status_of (D.Counter index w) = 1
 status_of D.Usage = 2
 status_of D.TooLong = 3
 status_of (D.TreeRefused fault) = 3
 status_of (D.SyntaxRefused fault) = 3
+status_of (D.NotStratified index sorts) = 4
+status_of (D.TooLarge index) = 5
+status_of (D.Spent index log) = 6
 status_of D.ReadFault = 7
 status_of D.WriteFault = 8
 status_of D.MemoryWanting = 9
-status_of D.Unsupported = 10
 
 -- what is told on standard error
 abbrev pub told_of : Detail → List ℕ
 told_of (D.Proved obligations) = []
 told_of D.Shown = []
-told_of (D.Counter index values) = []
-told_of D.Usage = codes "usage: leadsto prove | show\n"
+told_of (D.Counter index w) = []
+told_of (D.NotStratified index sorts) = []
+told_of (D.TooLarge index) = []
+told_of (D.Spent index log) = []
+told_of D.Usage = codes "usage: leadsto prove [--budget N] | show\n"
 told_of D.TooLong = codes "text too long\n"
 told_of (D.TreeRefused fault) = tree_refusal_text fault
 told_of (D.SyntaxRefused fault) = syntax_refusal_text fault
 told_of D.ReadFault = codes "read fault\n"
 told_of D.WriteFault = []
 told_of D.MemoryWanting = codes "memory\n"
-told_of D.Unsupported = codes "unsupported form\n"
 
 -- these bytes were read: all that were left, and not too many
 pub record AreRead (left : Option (List ℕ)) (bytes : List ℕ) : Type 0 where
@@ -82,8 +86,10 @@ pub record IsReadAnswer (words : List (String Global)) (left : Option (List ℕ)
 -- composed, and want of memory has no cause here.
 abbrev pub IsComposed : List (String Global) → Option (List ℕ) → Detail → List ℕ → Type 0
 IsComposed words left (D.Proved obligations) out = IsReadAnswer words left (D.Proved obligations) out
-IsComposed words left (D.Counter index values) out = IsReadAnswer words left (D.Counter index values) out
-IsComposed words left D.Unsupported out = IsReadAnswer words left D.Unsupported out
+IsComposed words left (D.Counter index w) out = IsReadAnswer words left (D.Counter index w) out
+IsComposed words left (D.NotStratified index sorts) out = IsReadAnswer words left (D.NotStratified index sorts) out
+IsComposed words left (D.TooLarge index) out = IsReadAnswer words left (D.TooLarge index) out
+IsComposed words left (D.Spent index log) out = IsReadAnswer words left (D.Spent index log) out
 IsComposed words left D.Shown out = IsReadAnswer words left D.Shown out
 IsComposed words left (D.TreeRefused fault) out = IsReadAnswer words left (D.TreeRefused fault) out
 IsComposed words left (D.SyntaxRefused fault) out = IsReadAnswer words left (D.SyntaxRefused fault) out
@@ -130,8 +136,10 @@ pub record IsCaused (words : List (String Global)) (left : Option (List ℕ)) (a
 
 abbrev pub HasReason : List (String Global) → Option (List ℕ) → Detail → Type 0
 HasReason words left (D.Proved obligations) = IsCaused words left (D.Proved obligations)
-HasReason words left (D.Counter index values) = IsCaused words left (D.Counter index values)
-HasReason words left D.Unsupported = IsCaused words left D.Unsupported
+HasReason words left (D.Counter index w) = IsCaused words left (D.Counter index w)
+HasReason words left (D.NotStratified index sorts) = IsCaused words left (D.NotStratified index sorts)
+HasReason words left (D.TooLarge index) = IsCaused words left (D.TooLarge index)
+HasReason words left (D.Spent index log) = IsCaused words left (D.Spent index log)
 HasReason words left D.Shown = IsCaused words left D.Shown
 HasReason words left (D.TreeRefused fault) = IsCaused words left (D.TreeRefused fault)
 HasReason words left (D.SyntaxRefused fault) = IsCaused words left (D.SyntaxRefused fault)
@@ -147,8 +155,10 @@ HasReason words left D.MemoryWanting = Unit {0}
 -- Where the answer is the usage line nothing was read, and else no more than that.
 abbrev pub IsLeft : Detail → Option (List ℕ) → Option (List ℕ) → Type 0
 IsLeft (D.Proved obligations) before now = IsAtEnd now
-IsLeft (D.Counter index values) before now = IsAtEnd now
-IsLeft D.Unsupported before now = IsAtEnd now
+IsLeft (D.Counter index w) before now = IsAtEnd now
+IsLeft (D.NotStratified index sorts) before now = IsAtEnd now
+IsLeft (D.TooLarge index) before now = IsAtEnd now
+IsLeft (D.Spent index log) before now = IsAtEnd now
 IsLeft D.Shown before now = IsAtEnd now
 IsLeft (D.TreeRefused fault) before now = IsAtEnd now
 IsLeft (D.SyntaxRefused fault) before now = IsAtEnd now
@@ -167,13 +177,6 @@ pub record BeginsWithP (before now : Option (List ℕ)) : Type 0 where
   pub was : before ≡ Some front
   pub is : now ≡ Some (front ++ 112 ∷ rest)
 
--- the bytes spell a system of the form that is decided, and all its obligations are valid
-pub record HasProof (bytes : List ℕ) : Type 0 where
-  pub system : Parts
-  pub spells : Spells bytes system
-  pub form : has_form system ≡ true
-  pub valid : AreAllValid system
-
 -- ---- what may be answered in place of the one answer that fits
 
 -- the answer is so, or a stream failed, or memory was wanting
@@ -182,18 +185,36 @@ IsOrFault Is D.ReadFault = Unit {0}
 IsOrFault Is D.WriteFault = Unit {0}
 IsOrFault Is D.MemoryWanting = Unit {0}
 IsOrFault Is (D.Proved obligations) = Is (D.Proved obligations)
-IsOrFault Is (D.Counter index values) = Is (D.Counter index values)
-IsOrFault Is D.Unsupported = Is D.Unsupported
+IsOrFault Is (D.Counter index w) = Is (D.Counter index w)
+IsOrFault Is (D.NotStratified index sorts) = Is (D.NotStratified index sorts)
+IsOrFault Is (D.TooLarge index) = Is (D.TooLarge index)
+IsOrFault Is (D.Spent index log) = Is (D.Spent index log)
 IsOrFault Is D.Shown = Is D.Shown
 IsOrFault Is (D.TreeRefused fault) = Is (D.TreeRefused fault)
 IsOrFault Is (D.SyntaxRefused fault) = Is (D.SyntaxRefused fault)
 IsOrFault Is D.Usage = Is D.Usage
 IsOrFault Is D.TooLong = Is D.TooLong
 
--- the answer is that this obligation is the first that isn't valid
-abbrev pub IsCounterAt : ℕ → Detail → Type 0
-IsCounterAt index (D.Counter n values) = n ≡ index
-IsCounterAt index _ = ⊥
+-- all obligations are valid, or the budget was spent at one
+abbrev pub IsProvedOrSpent : Parts → ℕ → Detail → Type 0
+IsProvedOrSpent p budget (D.Proved obligations) = obligations ≡ count p
+IsProvedOrSpent p budget (D.Spent index log) = IsFirstSpent p budget index log
+IsProvedOrSpent p budget _ = ⊥
+
+-- this obligation is the first that isn't valid, or the budget was spent at one up to it
+abbrev pub IsCounterOrSpent : Parts → ℕ → ℕ → Detail → Type 0
+IsCounterOrSpent p budget index (D.Counter n w) = n ≡ index
+IsCounterOrSpent p budget index (D.Spent n log) = IsFirstSpent p budget n log × (n ≤ index)
+IsCounterOrSpent p budget index _ = ⊥
+
+-- the budget wasn't spent
+abbrev pub IsNotSpent : Detail → Type 0
+IsNotSpent (D.Spent index log) = ⊥
+IsNotSpent _ = Unit {0}
+
+-- the budget is at least 3 to the power of the number of variables of each obligation's ground clauses
+abbrev pub IsEnough : Parts → ℕ → Type 0
+IsEnough p budget = (i : ℕ) → i < count p → (c : Clauses) → AreGroundClauses (vocabulary_at p i) (sentences_at p i) c → 3 ^ c.vars ≤ budget
 
 -- where the words are no command nothing is read, so that no read fails
 abbrev pub IsUsageOrFault : Detail → Type 0

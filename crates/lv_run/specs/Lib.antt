@@ -1,11 +1,4 @@
 pub mod Answers
 pub mod Calls
-pub mod Commands
 pub mod ErrorTexts
-pub mod Form
-pub mod Labels
-pub mod Monitor
-pub mod Obligations
-pub mod Search
-pub mod Texts
-pub mod Truth
+pub mod Refusals

@@ -1,19 +1,22 @@
 //! The answer to a text, with what is written for it.
-ghost use Rattle.std.specs.Prelude.{◌≡◌, ◌≤◌, [], IfOk, length};
+ghost use Rattle.std.specs.Prelude.{◌≡◌, ◌≤◌, ◌<◌, true, [], IfOk, length};
 ghost use Rattle.lv_system.specs.declared.parts.Parts.{Parts};
+ghost use Rattle.lv_grammar.specs.LabelLimits.{labels_keep_limits};
 ghost use Rattle.lv_grammar.specs.Spelling.{Spells};
-ghost use Rattle.lv_run.specs.Answers.{IsSystemAnswer, IsRefusal, IsAnswered};
+ghost use Rattle.lv_command.specs.Commands.{IsInRange};
+ghost use Rattle.lv_run.specs.Answers.{IsSystemAnswer, IsRefusal, IsAnswered, detail_of};
 ghost use Rattle.lv_run.specs.Calls.{told_of};
 ghost use Rattle.lv_run.specs.ErrorTexts.{error_bytes};
 
 use crate::detail::Detail;
-use crate::judge::{Judgement, judge};
-use crate::mode::Mode;
+use crate::outcome::{Reported, prove_reported};
 use crate::reader::{Refusal, read_text};
-use crate::texts::{syntax_refusal, tree_refusal};
+use crate::refusals::{syntax_refusal, tree_refusal};
+use lv_command::Mode;
 use lv_formula::Memory;
 use lv_show::show;
 use lv_system::System;
+use lv_tree::List;
 use std::alloc::Global;
 
 /// What is told on standard error. A text that stands in the program takes no memory.
@@ -38,29 +41,36 @@ impl ErrorText {
 #[derive(Drop)]
 pub(crate) struct Composed {
     pub(crate) detail: Detail,
-    pub(crate) out: Vec<u8>,
+    pub(crate) out: List<u8>,
     pub(crate) err: ErrorText,
     ghost told: { error_bytes err ≡ told_of detail },
+}
+
+/// The text without a byte.
+fn nothing(alloc: Global) -> List<u8>
+    ensures { result ≡ [] }
+{
+    List::from_vec(Vec::new(alloc))
 }
 
 /// An answer that is told on standard error alone, in words that stand in the program.
 pub(crate) fn told(alloc: Global, detail: Detail, err: &'static [u8]) -> Composed
     requires { err.now ≡ told_of detail }
     ensures detail { result.detail ≡ detail }
-    ensures out { result.out.items ≡ [] }
+    ensures out { result.out ≡ [] }
 {
     Composed {
         detail,
-        out: Vec::new(alloc),
+        out: nothing(alloc),
         err: ErrorText::Fixed(err),
     }
 }
 
 /// An answer with a report on standard output alone.
-fn reported(detail: Detail, out: Vec<u8>) -> Composed
+fn reported(detail: Detail, out: List<u8>) -> Composed
     requires { told_of detail ≡ [] }
     ensures detail { result.detail ≡ detail }
-    ensures out { result.out.items ≡ out.items }
+    ensures out { result.out ≡ out }
 {
     Composed {
         detail,
@@ -69,35 +79,35 @@ fn reported(detail: Detail, out: Vec<u8>) -> Composed
     }
 }
 
-/// The answer of `prove` to a system.
-fn prove_system(alloc: Global, system: &System) -> Result<Composed, Memory>
-    ensures { IfOk result (λ composed. IsSystemAnswer Mode.Prove system.now composed.detail composed.out.items) }
+/// An answer with the report that was made of it.
+fn reported_on(it: Reported) -> Composed
+    ensures detail { result.detail ≡ detail_of it.outcome }
+    ensures out { result.out ≡ it.report }
 {
-    Ok(match judge(alloc, system)? {
-        Judgement::Unsupported => told(alloc, Detail::Unsupported, b"unsupported form\n"),
-        Judgement::Proved {
-            obligations,
-            report,
-        } => reported(Detail::Proved { obligations }, report),
-        Judgement::Counter {
-            index,
-            values,
-            report,
-        } => reported(Detail::Counter { index, values }, report),
-    })
+    reported(Detail::of(it.outcome), it.report)
+}
+
+/// The answer of `prove` to a system.
+#[tactic(auto, using(crate::proofs::AnswerLemmas::outcome_answered))]
+fn prove_system(alloc: Global, system: &System, budget: u32) -> Result<Composed, Memory>
+    requires labels { labels_keep_limits system.now ≡ true }
+    requires budget { 0 < budget }
+    ensures { IfOk result (λ composed. IsSystemAnswer (Mode.Prove budget) system.now composed.detail composed.out) }
+{
+    let reported = prove_reported(alloc, system, budget)?;
+    Ok(reported_on(reported))
 }
 
 /// The answer of `show` to a system.
 fn show_system(alloc: Global, system: &System) -> Result<Composed, Memory>
-    ensures { IfOk result (λ composed. IsSystemAnswer Mode.Show system.now composed.detail composed.out.items) }
+    ensures { IfOk result (λ composed. IsSystemAnswer Mode.Show system.now composed.detail composed.out) }
 {
-    let text = show(alloc, system)?;
-    Ok(reported(Detail::Shown, Vec::from_slice(alloc, text.as_slice())?))
+    Ok(reported(Detail::Shown, show(alloc, system)?))
 }
 
 /// The answer to a text that spells no system.
 fn refuse(alloc: Global, refusal: Refusal) -> Result<Composed, Memory>
-    ensures { IfOk result (λ composed. IsRefusal refusal composed.detail composed.out.items) }
+    ensures { IfOk result (λ composed. IsRefusal refusal composed.detail composed.out) }
 {
     let (detail, text) = match refusal {
         Refusal::Tree(fault) => {
@@ -109,19 +119,21 @@ fn refuse(alloc: Global, refusal: Refusal) -> Result<Composed, Memory>
     };
     Ok(Composed {
         detail,
-        out: Vec::new(alloc),
+        out: nothing(alloc),
         err: ErrorText::Made(text),
     })
 }
 
 /// The answer to a text of at most 1,048,576 bytes. The error is want of memory.
+#[tactic(auto, using(crate::proofs::AnswerLemmas::keeps_limits))]
 pub(crate) fn answer(alloc: Global, mode: Mode, bytes: &[u8]) -> Result<Composed, Memory>
-    requires { length bytes.now ≤ 1048576 }
-    ensures { IfOk result (λ composed. IsAnswered mode bytes.now composed.detail composed.out.items) }
+    requires few { length bytes.now ≤ 1048576 }
+    requires range { IsInRange mode }
+    ensures { IfOk result (λ composed. IsAnswered mode bytes.now composed.detail composed.out) }
 {
     match read_text(alloc, bytes) {
         Ok(system) => match mode {
-            Mode::Prove => prove_system(alloc, &system),
+            Mode::Prove { budget } => prove_system(alloc, &system, budget),
             Mode::Show => show_system(alloc, &system),
         },
         Err(refusal) => refuse(alloc, refusal),

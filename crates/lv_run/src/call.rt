@@ -1,20 +1,22 @@
 //! The one call that does all that the program does.
-ghost use Rattle.std.specs.Prelude.{◌≡◌, ◌⊎◌, ◌≤◌, ◌<◌, true, IfSome, Some, ℕ, Bool, List, [], length};
+ghost use Rattle.std.specs.Prelude.{◌≡◌, ◌⊎◌, ◌≤◌, ◌<◌, IfSome, Some, ℕ, List, [], length};
 ghost use Rattle.std.specs.declared.string.String.{String};
 ghost use Rattle.std.specs.declared.alloc.Global.{Global};
 ghost use Rattle.lv_system.specs.declared.parts.Parts.{Parts};
 ghost use Rattle.lv_grammar.specs.Spelling.{Spells};
 ghost use Rattle.lv_edge.specs.Causes.{Rose};
 ghost use Rattle.lv_edge.specs.Streams.{LosesAtMost};
-ghost use Rattle.lv_run.specs.Obligations.{count, AreAllValid, IsFirstBroken};
-ghost use Rattle.lv_run.specs.Form.{has_form};
+ghost use Rattle.lv_struct.specs.Tables.{Tables};
+ghost use Rattle.lv_labels.specs.Obligations.{AreValid};
+ghost use Rattle.lv_prove.specs.Outcomes.{IsFirstBroken, IsInFragment};
+ghost use Rattle.lv_headline.specs.Headline.{IsProved};
+ghost use Rattle.lv_command.specs.Commands.{IsInRange};
 ghost use Rattle.lv_run.specs.Answers.{Reading, Reads, IsAnswer};
-ghost use Rattle.lv_run.specs.Calls.{AskFor, AreCommand, AreNoCommand, status_of, told_of, IsComposed, IsLeft, IsDelivered, Concludes, HasReason, BeginsWithP, HasProof, IsOrFault, IsCounterAt, IsUsageOrFault};
+ghost use Rattle.lv_run.specs.Calls.{AskFor, AreCommand, AreNoCommand, status_of, told_of, IsComposed, IsLeft, IsDelivered, Concludes, HasReason, BeginsWithP, IsOrFault, IsProvedOrSpent, IsCounterOrSpent, IsEnough, IsNotSpent, IsUsageOrFault};
 
 use crate::answer::{Composed, answer, told};
-use crate::commands::mode;
 use crate::detail::Detail;
-use crate::mode::Mode;
+use lv_command::{Mode, mode_of};
 use lv_edge::{ReadAll, Sink, Source, read_all, write_all};
 use std::alloc::Global;
 
@@ -31,7 +33,7 @@ pub struct Report {
 
 fn wanting(alloc: Global) -> Composed
     ensures detail { result.detail ≡ Detail.MemoryWanting }
-    ensures out { result.out.items ≡ [] }
+    ensures out { result.out ≡ [] }
 {
     told(alloc, Detail::MemoryWanting, b"memory\n")
 }
@@ -39,7 +41,8 @@ fn wanting(alloc: Global) -> Composed
 /// The answer in a mode to the text, which is read to its end.
 #[tactic(auto, using(crate::proofs::CallLemmas::composed, crate::proofs::CallLemmas::no_read_fault, crate::proofs::CallLemmas::left_at_end))]
 fn compose_answer<S: Source>(alloc: Global, mode: Mode, source: &mut S) -> Composed
-    ensures texts { (words : List (String Global)) → AskFor mode words → IsComposed words (S.left source.old) result.detail result.out.items }
+    requires { IsInRange mode }
+    ensures texts { (words : List (String Global)) → AskFor mode words → IsComposed words (S.left source.old) result.detail result.out }
     ensures fault { result.detail ≡ Detail.ReadFault → Rose (S.faults source.old) (S.faults source.new) }
     ensures later { S.faults source.old ≤ S.faults source.new }
     ensures taken { IsLeft result.detail (S.left source.old) (S.left source.new) }
@@ -58,23 +61,27 @@ fn compose_answer<S: Source>(alloc: Global, mode: Mode, source: &mut S) -> Compo
 
 /// The answer to the words and the text.
 fn compose<S: Source>(alloc: Global, words: &[String], source: &mut S) -> Composed
-    ensures texts { IsComposed words.now (S.left source.old) result.detail result.out.items }
+    ensures texts { IsComposed words.now (S.left source.old) result.detail result.out }
     ensures fault { result.detail ≡ Detail.ReadFault → Rose (S.faults source.old) (S.faults source.new) }
     ensures later { S.faults source.old ≤ S.faults source.new }
     ensures taken { IsLeft result.detail (S.left source.old) (S.left source.new) }
     ensures at_most { LosesAtMost 1048577 (S.left source.old) (S.left source.new) }
     ensures unread { AreNoCommand words.now → S.left source.new ≡ S.left source.old }
 {
-    match mode(alloc, words) {
+    match mode_of(alloc, words) {
         Ok(Some(mode)) => compose_answer(alloc, mode, source),
-        Ok(None) => told(alloc, Detail::Usage, b"usage: leadsto prove | show\n"),
+        Ok(None) => told(
+            alloc,
+            Detail::Usage,
+            b"usage: leadsto prove [--budget N] | show\n",
+        ),
         Err(_) => wanting(alloc),
     }
 }
 
 /// Writes the texts. After a fault nothing more is written.
 fn deliver<O: Sink, E: Sink>(composed: Composed, out: &mut O, err: &mut E) -> Report
-    ensures delivered { IsDelivered composed.detail result.detail composed.out.items (told_of composed.detail) (O.written out.old) (O.written out.new) (E.written err.old) (E.written err.new) }
+    ensures delivered { IsDelivered composed.detail result.detail composed.out (told_of composed.detail) (O.written out.old) (O.written out.new) (E.written err.old) (E.written err.new) }
     ensures status { result.status ≡ status_of result.detail }
     ensures out_later { O.faults out.old ≤ O.faults out.new }
     ensures err_later { E.faults err.old ≤ E.faults err.new }
@@ -109,9 +116,9 @@ pub fn run<S: Source, O: Sink, E: Sink>(
     out: &mut O,
     err: &mut E,
 ) -> Report
-    // Where `out` received a text that begins with the byte `p`, the bytes that were left spell a system
-    // of the form that is decided, and all its obligations are valid.
-    ensures headline { BeginsWithP (O.written out.old) (O.written out.new) → IfSome (S.left source.old) HasProof }
+    // Where `out` received a text that begins with the byte `p`, the bytes that were left spell one system. On each lasso run
+    // of it, of structures of any sizes, whose loop is fair, the property holds; and its labelled runs are bounded.
+    ensures headline { BeginsWithP (O.written out.old) (O.written out.new) → IfSome (S.left source.old) IsProved }
 
     // Each answer has its cause, and its text is written.
     ensures reason { HasReason words.now (S.left source.old) result.detail }
@@ -130,13 +137,16 @@ pub fn run<S: Source, O: Sink, E: Sink>(
     ensures write_fault { result.detail ≡ Detail.WriteFault → Rose (O.faults out.old) (O.faults out.new) ⊎ Rose (E.faults err.old) (E.faults err.new) }
 
     // No other answer comes in place of the one that fits, faults and want of memory aside: to words that
-    // are no command, to a text that is too long, to what a text comes to in a mode, and so to a system
-    // whose obligations are valid, and to one with an obligation that isn't.
+    // are no command, to a text that is too long, to what a text comes to in a mode, and so to a system whose
+    // obligations are all decided and valid, and to one with an obligation that isn't, save that the budget may be spent.
     ensures only_usage { AreNoCommand words.now → IsUsageOrFault result.detail }
     ensures only_too_long { (bytes : List ℕ) → AreCommand words.now → S.left source.old ≡ Some bytes → 1048576 < length bytes → IsOrFault (λ answer. answer ≡ Detail.TooLong) result.detail }
     ensures only_answer { (mode : Mode) (bytes : List ℕ) (reading : Reading) → AskFor mode words.now → S.left source.old ≡ Some bytes → length bytes ≤ 1048576 → Reads bytes reading → IsOrFault (IsAnswer mode reading) result.detail }
-    ensures only_proved { (bytes : List ℕ) (p : Parts) → AskFor Mode.Prove words.now → S.left source.old ≡ Some bytes → length bytes ≤ 1048576 → Spells bytes p → has_form p ≡ true → AreAllValid p → IsOrFault (λ answer. answer ≡ Detail.Proved (count p)) result.detail }
-    ensures only_counter { (bytes : List ℕ) (p : Parts) (index : ℕ) (values : List Bool) → AskFor Mode.Prove words.now → S.left source.old ≡ Some bytes → length bytes ≤ 1048576 → Spells bytes p → has_form p ≡ true → IsFirstBroken p index values → IsOrFault (IsCounterAt index) result.detail }
+    ensures only_proved { (budget : ℕ) (bytes : List ℕ) (p : Parts) → AskFor (Mode.Prove budget) words.now → S.left source.old ≡ Some bytes → length bytes ≤ 1048576 → Spells bytes p → IsInFragment p → AreValid p → IsOrFault (IsProvedOrSpent p budget) result.detail }
+    ensures only_counter { (budget : ℕ) (bytes : List ℕ) (p : Parts) (index : ℕ) (w : Tables) → AskFor (Mode.Prove budget) words.now → S.left source.old ≡ Some bytes → length bytes ≤ 1048576 → Spells bytes p → IsInFragment p → IsFirstBroken p index w → IsOrFault (IsCounterOrSpent p budget index) result.detail }
+
+    // Where the budget is more than the solver can need, it isn't spent.
+    ensures never_spent { (budget : ℕ) (bytes : List ℕ) (p : Parts) → AskFor (Mode.Prove budget) words.now → S.left source.old ≡ Some bytes → length bytes ≤ 1048576 → Spells bytes p → IsEnough p budget → IsNotSpent result.detail }
 {
     deliver(compose(alloc, words, source), out, err)
 }

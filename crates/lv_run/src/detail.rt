@@ -1,18 +1,27 @@
 ghost use Rattle.std.specs.Prelude.{◌≡◌};
+ghost use Rattle.lv_run.specs.Answers.{detail_of};
 ghost use Rattle.lv_run.specs.Calls.{status_of};
 
-use lv_formula::List;
+use lv_cnf::Log;
+use lv_formula::{List, SortId};
+use lv_prove::Outcome;
+use lv_struct::Structure;
 use lv_syntax::SyntaxFault;
 use lv_tree::TreeFault;
 
-/// What a call of [`run`](crate::run) came to.
+/// The answer of a call.
 #[derive(Debug, Drop)]
 pub enum Detail {
     /// All obligations of the system are valid; there are so many.
     Proved { obligations: u32 },
-    /// This obligation is the first that isn't valid. The structure with these values of the words of
-    /// its vocabulary, in order, breaks it.
-    Counter { index: u32, values: List<bool> },
+    /// This obligation is the first that isn't valid, and the structure breaks it. It has at most 256 elements in each sort.
+    Counter { index: u32, structure: Structure },
+    /// This obligation is the first whose sort graph has a cycle, and this is one.
+    NotStratified { index: u32, sorts: List<SortId> },
+    /// No sort graph has a cycle, and this obligation is the first whose size is above 4,000,000.
+    TooLarge { index: u32 },
+    /// The obligations before this one are valid. At this one the solver learned these clauses, as many as the budget allows.
+    Spent { index: u32, log: Log },
     /// The system was shown.
     Shown,
     /// The command doesn't take the words.
@@ -25,9 +34,6 @@ pub enum Detail {
     TreeRefused(TreeFault),
     /// The text spells a tree, and the tree no system: its first fault.
     SyntaxRefused(SyntaxFault),
-    /// The text spells a system that isn't of the form that is decided: no sort, constant or witness, no
-    /// temporal operator inside another, and at most 20 words in each obligation.
-    Unsupported,
     /// Writing a report failed.
     WriteFault,
     /// There was no memory for the answer.
@@ -35,6 +41,19 @@ pub enum Detail {
 }
 
 impl Detail {
+    /// What became of the obligations of a system.
+    pub(crate) fn of(outcome: Outcome) -> Detail
+        ensures { result ≡ detail_of outcome }
+    {
+        match outcome {
+            Outcome::Proved { obligations } => Detail::Proved { obligations },
+            Outcome::Counter { index, structure } => Detail::Counter { index, structure },
+            Outcome::NotStratified { index, sorts } => Detail::NotStratified { index, sorts },
+            Outcome::TooLarge { index } => Detail::TooLarge { index },
+            Outcome::Spent { index, log } => Detail::Spent { index, log },
+        }
+    }
+
     /// The number with which the program ends.
     pub fn status(&self) -> u8
         ensures { result ≡ status_of self.now }
@@ -44,10 +63,12 @@ impl Detail {
             Detail::Counter { .. } => 1,
             Detail::Usage => 2,
             Detail::TooLong | Detail::TreeRefused(_) | Detail::SyntaxRefused(_) => 3,
+            Detail::NotStratified { .. } => 4,
+            Detail::TooLarge { .. } => 5,
+            Detail::Spent { .. } => 6,
             Detail::ReadFault => 7,
             Detail::WriteFault => 8,
             Detail::MemoryWanting => 9,
-            Detail::Unsupported => 10,
         }
     }
 }

@@ -1,30 +1,16 @@
 //! The one call that does all that the program does.
 //!
-//! A text is read as a tree and then as a system, which is shown, or whose obligations are decided. At
-//! this step that is done by trying all structures of their vocabularies, for systems of relations
-//! without arguments.
+//! A text is read as a tree and then as a system, which is shown, or whose obligations are decided.
 #![tactic(auto)]
 
 mod answer;
 mod call;
-mod commands;
-mod decide;
 mod detail;
-mod form;
-mod judge;
-mod labels;
 pub mod laws;
-mod mode;
-mod monitor;
-mod obligations;
+mod outcome;
 mod reader;
-mod tableau;
-mod texts;
-mod truth;
-mod which;
-mod words;
+mod refusals;
 
 pub use call::{Report, run};
 pub use detail::Detail;
-pub use mode::Mode;
-pub use which::{Move, Which};
+pub use lv_command::Mode;
