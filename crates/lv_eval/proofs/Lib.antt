@@ -1,1 +1,2 @@
+pub mod FirstFalseLaws
 pub mod TermLaws

@@ -6,6 +6,8 @@
 
 mod env;
 mod evaluate;
+mod failing;
 
 pub use env::Env;
 pub use evaluate::truth;
+pub use failing::{first_false, is_true};

@@ -1,3 +1,4 @@
+pub mod Elements
 pub mod FittingParts
 pub mod FormulaFits
 pub mod FormulaLaw
@@ -15,6 +16,7 @@ pub mod StructureFits
 pub mod StructureText
 pub mod SymbolWords
 pub mod SystemLaw
+pub mod TableLaw
 pub mod TextLaw
 pub mod Variables
 pub mod VocabularyWords

@@ -34,7 +34,7 @@ number_text n few =
 number_fits : (room n : ℕ) → n ≤ 256 → fits_in room (number n) ≡ true
 number_fits room n few = word_fits room (decimal n) (number_text n few)
 
-numbers_fit : (room : ℕ) (ns : List ℕ) → All (λ n. n ≤ 256) ns → all_fit_in room (map number ns) ≡ true
+pub numbers_fit : (room : ℕ) (ns : List ℕ) → All (λ n. n ≤ 256) ns → all_fit_in room (map number ns) ≡ true
 numbers_fit room [] few = refl
 numbers_fit room (n ∷ ns) few = items_fit room (number n) (map number ns) (number_fits room n (All-head (λ n. n ≤ 256) n ns few)) (numbers_fit room ns (All-tail (λ n. n ≤ 256) n ns few))
 

@@ -23,14 +23,14 @@ use Rattle.lv_grammar.specs.Layout.{in_lines}
 use Rattle.lv_grammar.proofs.LayoutLaw.{lines}
 use Rattle.lv_grammar.proofs.Likeness.{front, like_list, like_word, none_like, parted, three, two_first}
 use Rattle.lv_grammar.specs.StructureLaws.{StructureCanBeShown}
-use Rattle.lv_grammar.specs.ShownStructures.{number, shown_entry, shown_entry_of, shown_parts, shown_size, shown_sizes, shown_structure, shown_tuple, tuples_shown}
+use Rattle.lv_grammar.specs.ShownStructures.{number, shown_entry, shown_entry_of, shown_parts, shown_size, shown_sizes, shown_structure, shown_tuple, structure_tree, tuples_shown}
 use Rattle.lv_grammar.specs.Structures.{AreSizes, IsEntry, IsEntryOf, IsSize, IsStructure, IsTuple, SpellsStructure, no_sizes, sizes}
 use Rattle.lv_grammar.proofs.StructureFits.{parts_fit}
 use Rattle.lv_grammar.proofs.SmallElements.{shown_in_range, shown_same}
 
 -- ---- trees that are the shown ones but for places
 
-numbers_shown : (ns : List ℕ) (us : List Tree) → map bare us ≡ map bare (map number ns) → Each (λ n t. IsWord (decimal n) t) ns us
+pub numbers_shown : (ns : List ℕ) (us : List Tree) → map bare us ≡ map bare (map number ns) → Each (λ n t. IsWord (decimal n) t) ns us
 numbers_shown [] us e = rw (none_like us e) nothing
 numbers_shown (n ∷ ns) [] e = absurd cc
 numbers_shown (n ∷ ns) (u ∷ us) e = first_and_rest (like_word u (decimal n) (cc)) (numbers_shown ns us (cc))
@@ -82,7 +82,7 @@ module _ (p : Parts) where
     entries_shown (n ∷ ns) [] e = absurd cc
     entries_shown (n ∷ ns) (u ∷ us) e = first_and_rest (entry_shown n u (cc)) (entries_shown ns us (cc))
 
-    structure_shown : (u : Tree) → bare u ≡ bare (list (word (codes "structure") ∷ shown_parts p voc w)) → IsStructure p voc w u
+    pub structure_shown : (u : Tree) → bare u ≡ bare (structure_tree p voc w) → IsStructure p voc w u
     structure_shown u e =
         let k = front u (word (codes "structure")) (shown_parts p voc w) e in
         let q = parted k.rest (shown_sizes p 0 w.sizes) (map (shown_entry p voc w) voc.order) k.others in

@@ -10,5 +10,6 @@ pub mod ShownSystems
 pub mod Spelling
 pub mod StructureLaws
 pub mod Structures
+pub mod Tables
 pub mod Trees
 pub mod Words

@@ -47,6 +47,10 @@ shown_entry p voc w sym = shown_entry_of p w (relation_in voc.relations sym) sym
 abbrev pub shown_parts : Parts → Vocabulary → Tables → List Tree
 shown_parts p voc w = shown_sizes p 0 w.sizes ++ map (shown_entry p voc w) voc.order
 
+-- all parts as one tree
+abbrev pub structure_tree : Parts → Vocabulary → Tables → Tree
+structure_tree p voc w = list (word (codes "structure") ∷ shown_parts p voc w)
+
 -- `(structure`, each part on a line of its own, and then `)` and a newline
 abbrev pub shown_structure : Parts → Vocabulary → Tables → List ℕ
 shown_structure p voc w = codes "(structure" ++ (in_lines (shown_parts p voc w) ++ 41 ∷ 10 ∷ [])

@@ -2,11 +2,11 @@
 ghost use Rattle.std.specs.Prelude.{◌≡◌, ◌∷◌, ◌++◌, [], List, map, codes, IfOk, OnOk};
 ghost use Rattle.lv_grammar.specs.Words.{sort_name, symbol_word};
 ghost use Rattle.lv_grammar.specs.ShownFormulas.{word, list, variable_name, deeper, shown_term, shown_atom, shown_temporal, shown_temporals, shown_formula, shown_formulas};
-ghost use Rattle.lv_show.specs.Tables.{IsTable};
+ghost use Rattle.lv_grammar.specs.Tables.{IsTable};
 
 use crate::trees::{eventually, list, many, pair, triple, variable, word};
-use crate::words::{Words, sort_name, symbol_word};
 use lv_formula::{Formula, Memory, Rc, SortId, Sym, Temporal, Term};
+use lv_grammar::words::{Words, sort_name, symbol_word};
 use lv_tree::Tree;
 use std::alloc::Global;
 

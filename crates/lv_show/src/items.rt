@@ -5,12 +5,12 @@ ghost use Rattle.lv_system.specs.declared.parts.Parts.{Parts};
 ghost use Rattle.lv_grammar.specs.Grammar.{argument_sorts, in_order};
 ghost use Rattle.lv_grammar.specs.ShownFormulas.{word, list, variable_name, deeper, shown_term, shown_temporal, shown_formula};
 ghost use Rattle.lv_grammar.specs.ShownSystems.{shown_mark, shown_sort, shape_word, shown_sort_name, shown_shape, shown_symbol, shown_pairs, shown_names, shown_parameters, shown_lone, shown_setting, shown_update, shown_action, shown_declaration, shown_fair, shown_label, shown_witness, shown_property, shown_invariant, shown_items};
-ghost use Rattle.lv_show.specs.Tables.{IsTable};
+ghost use Rattle.lv_grammar.specs.Tables.{IsTable};
 
 use crate::formulas::{formula, temporal, term};
 use crate::trees::{invariant_word, list, pair, triple, variable, word};
-use crate::words::{Words, own_name, sort_name};
 use lv_formula::{Formula, Memory, SortId};
+use lv_grammar::words::{Words, own_name, sort_name};
 use lv_system::{
     Action, ActionUpdate, Fair, Invariant, LabelDecl, Parts, Shape, Sort, Symbol, WitnessDecl,
 };
@@ -129,7 +129,7 @@ fn lone(alloc: Global, head: &[u8], f: &Formula, words: &Words, depth: u64) -> R
 }
 
 /// The sorts of the arguments of the symbol with the number. A constant has none.
-#[tactic(auto, using(crate::proofs::Elements::element_there, crate::proofs::Elements::element_past))]
+#[tactic(auto, using(lv_grammar::proofs::Elements::element_there, lv_grammar::proofs::Elements::element_past))]
 fn argument_sorts(parts: &Parts, symbol: u32) -> &[SortId]
     ensures { result.now ≡ argument_sorts parts.now symbol }
 {

@@ -9,8 +9,7 @@ mod formulas;
 mod items;
 mod structures;
 mod texts;
-mod trees;
-mod words;
+pub mod trees;
 
 pub use lv_grammar::laws;
-pub use texts::{show, show_formula, show_structure, show_sym};
+pub use texts::{show, show_formula, show_structure, show_sym, structure_tree};

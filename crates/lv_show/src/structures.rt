@@ -3,12 +3,12 @@ ghost use Rattle.std.specs.Prelude.{◌≡◌, ◌++◌, IfOk, OnOk, map};
 ghost use Rattle.lv_struct.specs.Tables.{HasVocabulary};
 ghost use Rattle.lv_grammar.specs.ShownFormulas.{word};
 ghost use Rattle.lv_grammar.specs.Words.{symbol_word};
-ghost use Rattle.lv_grammar.specs.ShownStructures.{shown_constant, shown_entry, shown_parts, shown_relation, shown_size, shown_sizes, shown_tuple, tuples_shown};
-ghost use Rattle.lv_show.specs.Tables.{IsTable};
+ghost use Rattle.lv_grammar.specs.ShownStructures.{shown_constant, shown_entry, shown_parts, shown_relation, shown_size, shown_sizes, shown_tuple, structure_tree, tuples_shown};
+ghost use Rattle.lv_grammar.specs.Tables.{IsTable};
 
 use crate::trees::{many, number, numbers, triple, word};
-use crate::words::{Words, sort_name, symbol_word};
 use lv_formula::{Lookup, Memory, SortId, Sym, Vocabulary};
+use lv_grammar::words::{Words, sort_name, symbol_word};
 use lv_struct::Structure;
 use lv_system::Parts;
 use lv_tree::Tree;
@@ -143,4 +143,19 @@ pub(crate) fn structure_parts(
     push_sizes(alloc, &mut trees, m, voc, words.parts)?;
     push_entries(alloc, &mut trees, m, voc, words)?;
     Ok(trees)
+}
+
+/// All parts of a structure as one tree.
+pub(crate) fn whole_structure(
+    alloc: Global,
+    m: &Structure,
+    voc: &Vocabulary,
+    words: &Words,
+) -> Result<Tree, Memory>
+    requires table { IsTable words.now.parts.now words.now.labels.now }
+    requires vocabulary { HasVocabulary voc.now m.now }
+    ensures { IfOk result (λ tree. tree ≡ structure_tree words.now.parts.now voc.now m.now) }
+{
+    let parts = structure_parts(alloc, m, voc, words)?;
+    many(alloc, b"structure", parts)
 }

@@ -8,16 +8,16 @@ ghost use Rattle.lv_grammar.specs.Spelling.{SpellsSystem, Spells};
 ghost use Rattle.lv_grammar.specs.ShownFormulas.{shown_formula};
 ghost use Rattle.lv_grammar.specs.ShownSystems.{shown_items};
 ghost use Rattle.lv_grammar.specs.Layout.{in_lines, shown_text};
-ghost use Rattle.lv_grammar.specs.ShownStructures.{shown_parts, shown_structure};
+ghost use Rattle.lv_grammar.specs.ShownStructures.{shown_parts, shown_structure, structure_tree};
 ghost use Rattle.lv_grammar.specs.StructureLaws.{StructureCanBeShown};
-ghost use Rattle.lv_grammar.specs.Structures.{SpellsStructure};
+ghost use Rattle.lv_grammar.specs.Structures.{IsStructure, SpellsStructure};
 ghost use Rattle.lv_struct.specs.Tables.{HasVocabulary};
 
 use crate::formulas::formula;
 use crate::items::items;
-use crate::structures::structure_parts;
-use crate::words::{Words, symbol_word};
+use crate::structures::{structure_parts, whole_structure};
 use lv_formula::{Formula, Memory, Sym, Vocabulary};
+use lv_grammar::words::{Words, symbol_word};
 use lv_labels::{LabelTable, labels_of};
 use lv_struct::Structure;
 use lv_system::System;
@@ -97,6 +97,31 @@ pub fn show_structure(
     push_lines(alloc, &mut text, trees.as_slice())?;
     text.extend_from_slice(b")\n")?;
     Ok(List::from_vec(text))
+}
+
+/// The tree of a structure over a vocabulary, without places: the size of each sort, and then each relation with its
+/// tuples and each constant with its element, in order of the vocabulary. The only error is want of memory.
+///
+/// The caller sees to it that the table is the system's and that the structure has the vocabulary.
+pub fn structure_tree(
+    alloc: Global,
+    m: &Structure,
+    system: &System,
+    table: &LabelTable,
+    voc: &Vocabulary,
+) -> Result<Tree, Memory>
+    requires table { table.now.labels ≡ table_labels system.now }
+    requires vocabulary { HasVocabulary voc.now m.now }
+    ensures tree { IfOk result (λ tree. tree ≡ structure_tree system.now voc.now m.now) }
+
+    // Where no sort has more than 256 elements and the symbols have words, the tree spells the structure.
+    ensures spells { StructureCanBeShown system.now voc.now m.now → IfOk result (λ tree. IsStructure system.now voc.now m.now tree) }
+{
+    let words = Words {
+        parts: system.parts(),
+        labels: table.labels.as_slice(),
+    };
+    whole_structure(alloc, m, voc, &words)
 }
 
 /// A formula of the system on one line. It stands in the scope of `context` variables, of which the

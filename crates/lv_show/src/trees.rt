@@ -9,7 +9,7 @@ use lv_tree::{List, Tree};
 use std::alloc::Global;
 
 /// A word.
-pub(crate) fn word(alloc: Global, text: &[u8]) -> Result<Tree, Memory>
+pub fn word(alloc: Global, text: &[u8]) -> Result<Tree, Memory>
     ensures { IfOk result (λ t. t ≡ word text.now) }
 {
     Ok(Tree::Word {
@@ -19,7 +19,7 @@ pub(crate) fn word(alloc: Global, text: &[u8]) -> Result<Tree, Memory>
 }
 
 /// A list of these items.
-pub(crate) fn list(items: Vec<Tree>) -> Tree
+pub fn list(items: Vec<Tree>) -> Tree
     ensures { result ≡ list items.items }
 {
     Tree::Group {
@@ -43,7 +43,7 @@ pub(crate) fn variable(alloc: Global, number: u64) -> Result<Tree, Memory>
 }
 
 /// A number.
-pub(crate) fn number(alloc: Global, n: u32) -> Result<Tree, Memory>
+pub fn number(alloc: Global, n: u32) -> Result<Tree, Memory>
     ensures { IfOk result (λ t. t ≡ number n) }
 {
     let mut buffer = Buffer::new();
@@ -51,7 +51,7 @@ pub(crate) fn number(alloc: Global, n: u32) -> Result<Tree, Memory>
 }
 
 /// A list of these numbers.
-pub(crate) fn numbers(alloc: Global, ns: &[u32]) -> Result<Tree, Memory>
+pub fn numbers(alloc: Global, ns: &[u32]) -> Result<Tree, Memory>
     ensures { IfOk result (λ t. t ≡ list (map number ns.now)) }
 {
     let mut items = Vec::new(alloc);
@@ -83,7 +83,7 @@ pub(crate) fn triple(alloc: Global, head: &[u8], a: Tree, b: Tree) -> Result<Tre
 }
 
 /// A list of a word and any number of further items.
-pub(crate) fn many(alloc: Global, head: &[u8], mut items: Vec<Tree>) -> Result<Tree, Memory>
+pub fn many(alloc: Global, head: &[u8], mut items: Vec<Tree>) -> Result<Tree, Memory>
     ensures { IfOk result (λ t. t ≡ list (word head.now ∷ items.items)) }
 {
     items.insert(0, word(alloc, head)?)?;

@@ -27,12 +27,12 @@ use Rattle.lv_syntax.specs.declared.draft.Named.TheVariants as N
 use Rattle.lv_syntax.specs.declared.draft.Role.TheVariants as R
 use Rattle.lv_syntax.specs.declared.words.Family.{Family}
 use Rattle.lv_syntax.specs.declared.words.Family.TheVariants as Fam
-use Rattle.lv_syntax.specs.Given.{word_in, list_in, headed, Headed}
+use Rattle.lv_reading.specs.Given.{word_in, list_in, headed, Headed}
 use Rattle.lv_syntax.specs.Words.{family_of}
 use Rattle.lv_syntax.specs.Names.{named, new_variable}
 use Rattle.lv_syntax.specs.Formulas.{lone_formula, term_of_sort}
 use Rattle.lv_syntax.specs.Items.{variables_of, scope_of, sorts_of, opened_in, guard_in, Target, target_symbol, target_named, target_by, target_in, arguments_from, arguments_in, relation_update, constant_update, update_by, update_in, updates_in, action_item}
-use Rattle.lv_syntax.proofs.Steps.{done, ok_is, bound, passed, nothing_left, one_more, word_found, list_found, Begins, head_found}
+use Rattle.lv_reading.proofs.Steps.{done, ok_is, bound, passed, nothing_left, one_more, word_found, list_found, Begins, head_found}
 use Rattle.lv_syntax.proofs.Families.{variable_found}
 use Rattle.lv_syntax.proofs.Positions.{Found}
 use Rattle.lv_syntax.proofs.Naming.{symbol_name, named_is}

@@ -7,79 +7,61 @@ use Rattle.lv_formula.specs.declared.terms.Term.{Term}
 use Rattle.lv_grammar.specs.Words.{Variable}
 use Rattle.lv_syntax.specs.declared.draft.Draft.{Draft}
 use Rattle.lv_syntax.specs.declared.draft.Role.{Role}
-use Rattle.lv_syntax.specs.declared.fault.Kind.TheVariants.{Missing, TooMany}
-use Rattle.lv_syntax.specs.declared.fault.SyntaxFault.{SyntaxFault}
-use Rattle.lv_syntax.specs.Given.{◌>>=◌, fail, fail_if, place_of}
+use Rattle.lv_reading.specs.declared.fault.Kind.TheVariants.{Missing, TooMany}
+use Rattle.lv_reading.specs.declared.fault.SyntaxFault.{SyntaxFault}
+use Rattle.lv_reading.specs.Given.{◌>>=◌, fail, fail_if, place_of}
+use Rattle.lv_reading.specs.Behind.{behind}
+use Rattle.lv_reading.proofs.BehindLaws.{nothing_done, nothing_more, one_more, step_behind}
 use Rattle.lv_syntax.specs.Names.{new_variable, sort_in}
 use Rattle.lv_syntax.specs.Formulas.{term_of_sort, terms_in}
 use Rattle.lv_syntax.specs.Items.{Declared, scope_of, sorts_from, pairs_from, arguments_from}
 use Rattle.lv_syntax.specs.Behind.{terms_behind, sorts_behind, parameter_in, pairs_behind, arguments_behind}
 
-abbrev with_front : {A : Type 0} → List A → Result (List A) SyntaxFault → Result (List A) SyntaxFault
-with_front done (Ok xs) = Ok (done ++ xs)
-with_front done (Err e) = Err e
-
-moved : {A : Type 0} (done : List A) (x : A) (r : Result (List A) SyntaxFault) → with_front (done ++ x ∷ []) r ≡ with_front done (r >>= λ xs. Ok (x ∷ xs))
-moved done x (Ok xs) = ap Ok (append_assoc done (x ∷ []) xs)
-moved done x (Err e) = refl
-
-nothing_more : {A : Type 0} (done : List A) → Ok done ≡ with_front done (Ok [])
-nothing_more done = ap Ok (sym (append-nil done))
-
-no_front : {A : Type 0} (r : Result (List A) SyntaxFault) → with_front [] r ≡ r
-no_front (Ok xs) = refl
-no_front (Err e) = refl
-
--- a step that fails, or goes on
-step_in : {A B : Type 0} (done : List A) (r : Result B SyntaxFault) (f : B → Result (List A) SyntaxFault) → with_front done (r >>= f) ≡ (r >>= λ x. with_front done (f x))
-step_in done (Ok x) f = refl
-step_in done (Err e) f = refl
-
 steps : {A B : Type 0} (r : Result B SyntaxFault) (f g : B → Result A SyntaxFault) → ((x : B) → f x ≡ g x) → (r >>= f) ≡ (r >>= g)
 steps (Ok x) f g e = e x
 steps (Err z) f g e = refl
 
-terms_front : (d : Draft) (role : Role) (vs : List Variable) (done : List Term) (ss : List SortId) (ts : List Tree) → terms_behind d role vs done ss ts ≡ with_front done (terms_in d role vs ss ts)
+terms_front : (d : Draft) (role : Role) (vs : List Variable) (done : List Term) (ss : List SortId) (ts : List Tree) → terms_behind d role vs done ss ts ≡ behind done (terms_in d role vs ss ts)
 unfolding terms_behind terms_in
-terms_front d role vs done [] [] = nothing_more done
-terms_front d role vs done [] (t ∷ ts) = nothing_more done
-terms_front d role vs done (s ∷ ss) [] = nothing_more done
+terms_front d role vs done [] [] = sym (nothing_more done)
+terms_front d role vs done [] (t ∷ ts) = sym (nothing_more done)
+terms_front d role vs done (s ∷ ss) [] = sym (nothing_more done)
 terms_front d role vs done (s ∷ ss) (t ∷ ts) =
-    steps (term_of_sort d role vs s t) _ _ (λ x. terms_front d role vs (done ++ x ∷ []) ss ts ∙ moved done x (terms_in d role vs ss ts)) ∙ sym (step_in done (term_of_sort d role vs s t) _)
+    steps (term_of_sort d role vs s t) _ _ (λ x. terms_front d role vs (done ++ x ∷ []) ss ts ∙ one_more done x (terms_in d role vs ss ts)) ∙ sym (step_behind done (term_of_sort d role vs s t) _)
 
 pub terms_read : (d : Draft) (role : Role) (vs : List Variable) (ss : List SortId) (ts : List Tree) → terms_behind d role vs [] ss ts ≡ terms_in d role vs ss ts
-terms_read d role vs ss ts = terms_front d role vs [] ss ts ∙ no_front (terms_in d role vs ss ts)
+terms_read d role vs ss ts = terms_front d role vs [] ss ts ∙ nothing_done (terms_in d role vs ss ts)
 
 one_longer : {A : Type 0} (done : List A) (x : A) → length (done ++ x ∷ []) ≡ length done + 1
 one_longer [] x = refl
 one_longer (y ∷ ys) x = let e = one_longer ys x in omega (arith, e)
 
-sorts_front : (d : Draft) (done : List SortId) (ts : List Tree) → sorts_behind d done ts ≡ with_front done (sorts_from d (length done) ts)
+sorts_front : (d : Draft) (done : List SortId) (ts : List Tree) → sorts_behind d done ts ≡ behind done (sorts_from d (length done) ts)
 unfolding sorts_behind sorts_from
-sorts_front d done [] = nothing_more done
+sorts_front d done [] = sym (nothing_more done)
 sorts_front d done (t ∷ ts) =
-    steps (sort_in d t) _ _ (λ s. steps (fail_if (leb 4 (length done)) TooMany (place_of t)) _ _ (λ u. sorts_front d (done ++ s ∷ []) ts ∙ (ap (λ n. with_front (done ++ s ∷ []) (sorts_from d n ts)) (one_longer done s)
-    ∙ moved done s (sorts_from d (length done + 1) ts))) ∙ sym (step_in done (fail_if (leb 4 (length done)) TooMany (place_of t)) _)) ∙ sym (step_in done (sort_in d t) _)
+    steps (sort_in d t) _ _ (λ s. steps (fail_if (leb 4 (length done)) TooMany (place_of t)) _ _ (λ u. sorts_front d (done ++ s ∷ []) ts ∙ (ap (λ n. behind (done ++ s ∷ []) (sorts_from d n ts)) (one_longer done s)
+    ∙ one_more done s (sorts_from d (length done + 1) ts))) ∙ sym (step_behind done (fail_if (leb 4 (length done)) TooMany (place_of t)) _)) ∙ sym (step_behind done (sort_in d t) _)
 
 pub sorts_read : (d : Draft) (ts : List Tree) → sorts_behind d [] ts ≡ sorts_from d 0 ts
-sorts_read d ts = sorts_front d [] ts ∙ no_front (sorts_from d 0 ts)
+sorts_read d ts = sorts_front d [] ts ∙ nothing_done (sorts_from d 0 ts)
 
 last_first : {A : Type 0} (xs : List A) (x : A) → reverse (xs ++ x ∷ []) ≡ x ∷ reverse xs
 last_first xs x = reverse-append xs (x ∷ [])
 
-arguments_front : (vs done : List Variable) (ss : List SortId) (end : ℕ) (ts : List Tree) → arguments_behind vs done ss end ts ≡ with_front done (arguments_from (reverse done ++ vs) ss end ts)
+arguments_front : (vs done : List Variable) (ss : List SortId) (end : ℕ) (ts : List Tree) → arguments_behind vs done ss end ts ≡ behind done (arguments_from (reverse done ++ vs) ss end ts)
 unfolding arguments_behind arguments_from
-arguments_front vs done [] end [] = nothing_more done
+arguments_front vs done [] end [] = sym (nothing_more done)
 arguments_front vs done [] end (t ∷ ts) = refl
 arguments_front vs done (s ∷ ss) end [] = refl
 arguments_front vs done (s ∷ ss) end (t ∷ ts) =
     steps (new_variable (reverse done ++ vs) t) _ _ (λ name. arguments_front vs (done ++ record { name = name; sort = s } ∷ []) ss end ts
-    ∙ (ap (λ z. with_front (done ++ record { name = name; sort = s } ∷ []) (arguments_from (z ++ vs) ss end ts)) (last_first done (record { name = name; sort = s }))
-    ∙ moved done (record { name = name; sort = s }) (arguments_from (record { name = name; sort = s } ∷ (reverse done ++ vs)) ss end ts)))
-    ∙ sym (step_in done (new_variable (reverse done ++ vs) t) _)
+    ∙ (ap (λ z. behind (done ++ record { name = name; sort = s } ∷ []) (arguments_from (z ++ vs) ss end ts)) (last_first done (record { name = name; sort = s }))
+    ∙ one_more done (record { name = name; sort = s }) (arguments_from (record { name = name; sort = s } ∷ (reverse done ++ vs)) ss end ts)))
+    ∙ sym (step_behind done (new_variable (reverse done ++ vs) t) _)
 
 pub arguments_read : (vs : List Variable) (ss : List SortId) (end : ℕ) (ts : List Tree) → arguments_behind vs [] ss end ts ≡ arguments_from vs ss end ts
-arguments_read vs ss end ts = arguments_front vs [] ss end ts ∙ no_front (arguments_from vs ss end ts)
+arguments_read vs ss end ts = arguments_front vs [] ss end ts ∙ nothing_done (arguments_from vs ss end ts)
 
 map_last : {A B : Type 0} (f : A → B) (xs : List A) (x : A) → map f (xs ++ x ∷ []) ≡ map f xs ++ f x ∷ []
 map_last f [] x = refl
@@ -97,25 +79,25 @@ parameter_step done t f = go (new_variable (scope_of done) t) (fail_if (leb 4 (l
   go (Ok name) (Err e) = refl
   go (Err e) q = refl
 
-pairs_front : (d : Draft) (done : List Declared) (end : ℕ) (ts : List Tree) → pairs_behind d done end ts ≡ with_front done (pairs_from d (length done) (scope_of done) end ts)
+pairs_front : (d : Draft) (done : List Declared) (end : ℕ) (ts : List Tree) → pairs_behind d done end ts ≡ behind done (pairs_from d (length done) (scope_of done) end ts)
 unfolding pairs_behind pairs_from
-pairs_front d done end [] = nothing_more done
+pairs_front d done end [] = sym (nothing_more done)
 pairs_front d done end (t ∷ []) =
     parameter_step done t (λ name. fail Missing end)
-    ∙ (steps (new_variable (scope_of done) t) _ _ (λ name. sym (step_in done (fail_if (leb 4 (length done)) TooMany (place_of t)) (λ u. fail Missing end))) ∙ sym (step_in done (new_variable (scope_of done) t) _))
+    ∙ (steps (new_variable (scope_of done) t) _ _ (λ name. sym (step_behind done (fail_if (leb 4 (length done)) TooMany (place_of t)) (λ u. fail Missing end))) ∙ sym (step_behind done (new_variable (scope_of done) t) _))
 pairs_front d done end (t ∷ u ∷ ts) =
     parameter_step done t _
     ∙ (steps (new_variable (scope_of done) t) _ _ (λ name.
     steps (fail_if (leb 4 (length done)) TooMany (place_of t)) _ _ (λ z.
     steps (sort_in d u) _ _ (λ sort.
     pairs_front d (done ++ made name sort ∷ []) end ts
-    ∙ (ap₂ (λ n vs. with_front (done ++ made name sort ∷ []) (pairs_from d n vs end ts)) (one_longer done (made name sort)) (scope_last done (made name sort))
-    ∙ moved done (made name sort) (pairs_from d (length done + 1) ((made name sort).variable ∷ scope_of done) end ts)))
-    ∙ sym (step_in done (sort_in d u) _))
-    ∙ sym (step_in done (fail_if (leb 4 (length done)) TooMany (place_of t)) _))
-    ∙ sym (step_in done (new_variable (scope_of done) t) _)) where
+    ∙ (ap₂ (λ n vs. behind (done ++ made name sort ∷ []) (pairs_from d n vs end ts)) (one_longer done (made name sort)) (scope_last done (made name sort))
+    ∙ one_more done (made name sort) (pairs_from d (length done + 1) ((made name sort).variable ∷ scope_of done) end ts)))
+    ∙ sym (step_behind done (sort_in d u) _))
+    ∙ sym (step_behind done (fail_if (leb 4 (length done)) TooMany (place_of t)) _))
+    ∙ sym (step_behind done (new_variable (scope_of done) t) _)) where
       made : List ℕ → SortId → Declared
       made name sort = record { at = place_of t; variable = record { name = name; sort = sort } }
 
 pub pairs_read : (d : Draft) (end : ℕ) (ts : List Tree) → pairs_behind d [] end ts ≡ pairs_from d 0 [] end ts
-pairs_read d end ts = pairs_front d [] end ts ∙ no_front (pairs_from d 0 [] end ts)
+pairs_read d end ts = pairs_front d [] end ts ∙ nothing_done (pairs_from d 0 [] end ts)

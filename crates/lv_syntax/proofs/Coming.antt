@@ -10,7 +10,7 @@ use Rattle.lv_grammar.specs.Grammar.{Each, nothing, first_and_rest}
 use Rattle.lv_syntax.specs.declared.draft.Draft.{Draft}
 use Rattle.lv_syntax.specs.declared.items.ItemKind.{ItemKind}
 use Rattle.lv_syntax.specs.declared.items.ItemKind.TheVariants as I
-use Rattle.lv_syntax.specs.Given.{Headed}
+use Rattle.lv_reading.specs.Given.{Headed}
 use Rattle.lv_syntax.proofs.Stage as Stage
 use Rattle.lv_syntax.proofs.Stage.{Within}
 use Rattle.lv_syntax.proofs.ItemSteps.{Added}

@@ -8,11 +8,11 @@ use Rattle.lv_grammar.specs.Words.{Variable, variable_number, begins_capital, is
 use Rattle.lv_syntax.specs.declared.draft.Draft.{Draft}
 use Rattle.lv_syntax.specs.declared.words.Family.{Family}
 use Rattle.lv_syntax.specs.declared.words.Family.TheVariants as Fam
-use Rattle.lv_syntax.specs.Given.{Worded, word_in}
+use Rattle.lv_reading.specs.Given.{Worded, word_in}
 use Rattle.lv_syntax.specs.Words.{family_of, has_dot}
 use Rattle.lv_syntax.specs.Names.{named, new_name, new_name_by, new_variable, new_variable_by}
-use Rattle.lv_syntax.proofs.Steps.{done, ok_is, bound, passed, word_found}
-use Rattle.lv_syntax.proofs.Keywords.{same_is}
+use Rattle.lv_reading.proofs.Steps.{done, ok_is, bound, passed, word_found}
+use Rattle.lv_reading.proofs.SameTexts.{same_is}
 
 -- a name is no reserved word, begins small and has the bytes of names; a variable begins with a capital; the marks have one word
 abbrev pub Says : List ℕ → Family → Type 0

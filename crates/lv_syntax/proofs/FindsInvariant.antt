@@ -23,7 +23,7 @@ use Rattle.lv_syntax.specs.declared.draft.Role.TheVariants as R
 use Rattle.lv_syntax.specs.Words.{family_of, keyword_of, constant_keyword, connective_keyword, or_else}
 use Rattle.lv_syntax.specs.Names.{named, dotted_said, said, permitted, relation_at, constant_at}
 use Rattle.lv_syntax.specs.Formulas.{constant_term, term_by}
-use Rattle.lv_syntax.proofs.Steps.{done}
+use Rattle.lv_reading.proofs.Steps.{done}
 use Rattle.lv_syntax.proofs.Positions.{Found}
 use Rattle.lv_syntax.proofs.Naming.{sort_name, fair_name, label_name, witness_name, sort_again, fair_again, label_again, witness_again}
 use Rattle.lv_syntax.proofs.Knowing.{Finds}

@@ -28,7 +28,7 @@ use Rattle.lv_syntax.specs.declared.words.Keyword.TheVariants as K
 use Rattle.lv_syntax.specs.Words.{family_of, keyword_of}
 use Rattle.lv_syntax.specs.Names.{named, sort_in, said, permitted, relation_at, constant_at}
 use Rattle.lv_syntax.specs.Formulas.{constant_term, term_by}
-use Rattle.lv_syntax.proofs.Steps.{done}
+use Rattle.lv_reading.proofs.Steps.{done}
 use Rattle.lv_syntax.proofs.Keywords.{keyword_is, keyword_word}
 use Rattle.lv_syntax.proofs.Positions.{Found}
 use Rattle.lv_syntax.proofs.Naming.{sort_name, symbol_name, witness_name, sort_again, symbol_again, witness_again}
@@ -36,7 +36,7 @@ use Rattle.lv_syntax.proofs.Knowing.{Finds}
 use Rattle.lv_syntax.proofs.Stage.{Begins, Within, there, name_there, get_there, taken_once}
 use Rattle.lv_syntax.proofs.WordKinds.{and_first, and_second, name_family}
 use Rattle.lv_syntax.proofs.KnowsOwn.{test_of}
-use Rattle.lv_syntax.proofs.FormulaAgain.{word_again}
+use Rattle.lv_reading.proofs.TreesAgain.{word_again}
 
 -- ---- names of items are names, and no keywords
 

@@ -18,18 +18,19 @@ use Rattle.lv_grammar.specs.Grammar.{IsSort, IsDeclared, IsShape, relation, cons
 use Rattle.lv_syntax.specs.declared.draft.Draft.{Draft}
 use Rattle.lv_syntax.specs.declared.draft.Role.TheVariants as R
 use Rattle.lv_syntax.specs.declared.items.ItemKind.TheVariants as I
-use Rattle.lv_syntax.specs.Given.{Headed}
+use Rattle.lv_reading.specs.Given.{Headed}
 use Rattle.lv_syntax.specs.Names.{sort_in, new_name}
 use Rattle.lv_syntax.specs.Formulas.{lone_formula}
 use Rattle.lv_syntax.specs.Items.{mark_in, sorts_in, first_kinds, last_kinds, name_in, sort_item, relation_item, constant_item, with_item}
-use Rattle.lv_syntax.proofs.Steps.{done}
+use Rattle.lv_reading.proofs.Steps.{done}
 use Rattle.lv_syntax.proofs.Positions.{Found}
 use Rattle.lv_syntax.proofs.Naming.{sort_name, symbol_name, taken, sort_again}
 use Rattle.lv_syntax.proofs.Stage.{Begins, Within, name_there, get_there, taken_once}
 use Rattle.lv_syntax.proofs.FindsOwn.{among_names, all_names, Complete, finds_axiom, finds_state}
 use Rattle.lv_syntax.proofs.WordKinds.{name_family}
-use Rattle.lv_syntax.proofs.FormulaAgain.{word_again, none_named}
-use Rattle.lv_syntax.proofs.ReadersAgain.{headed_by, name_again, mark_again, SortsRead, sorts_in_again}
+use Rattle.lv_syntax.proofs.FormulaAgain.{none_named}
+use Rattle.lv_reading.proofs.TreesAgain.{word_again, headed_by}
+use Rattle.lv_syntax.proofs.ReadersAgain.{name_again, mark_again, SortsRead, sorts_in_again}
 use Rattle.lv_syntax.proofs.LoneAgain.{lone_again}
 use Rattle.lv_syntax.proofs.Stages.{stage, begins_none, begins_all, begins_front, begins_next, not_full, at_next, name_next, counted_next, names_by_kind, within_stage, complete_stage, step_again, Stepped, StepLaw}
 use Rattle.lv_syntax.proofs.AllFits.{AllFit}

@@ -22,13 +22,14 @@ use Rattle.lv_grammar.specs.Words.{Variable, further, variable_number, begins_ca
 use Rattle.lv_grammar.specs.Grammar.{Each, nothing, first_and_rest, IsWord, IsList, IsSymbol, IsTerm, variable, constant, IsFormula, truth, falsity, bare_atom as is_bare_atom, atom, equation, negation, conjunction, disjunction, implication, equivalence, universal, existential, always, eventually, AreFormulas, no_formulas, formulas}
 use Rattle.lv_syntax.specs.declared.draft.Draft.{Draft}
 use Rattle.lv_syntax.specs.declared.draft.Role.{Role}
-use Rattle.lv_syntax.specs.declared.fault.SyntaxFault.{SyntaxFault}
-use Rattle.lv_syntax.specs.Given.{◌>>=◌, word_layer, word_in, headed_items}
+use Rattle.lv_reading.specs.declared.fault.SyntaxFault.{SyntaxFault}
+use Rattle.lv_reading.specs.Given.{◌>>=◌, word_layer, word_in, headed_items}
+use Rattle.lv_reading.proofs.TreesAgain.{listed_again, word_again, worded_again}
 use Rattle.lv_syntax.specs.Words.{keyword_of, constant_keyword, connective_keyword}
 use Rattle.lv_syntax.specs.Names.{new_variable, sort_in, is_temporal}
 use Rattle.lv_syntax.specs.Formulas.{sort_at, term_in, term_of_sort, terms_in, bare_atom, fail_arity, listed_atom, equation_in, Reader, each, one_part, two_parts, bound_part, operator_in, list_by, list_formula, word_formula, flat, layer, formula_of}
-use Rattle.lv_syntax.proofs.Steps.{done}
-use Rattle.lv_syntax.proofs.Keywords.{same_is}
+use Rattle.lv_reading.proofs.Steps.{done}
+use Rattle.lv_reading.proofs.SameTexts.{same_is}
 use Rattle.lv_syntax.proofs.Knowing.{Finds}
 use Rattle.lv_syntax.proofs.Stateless.{is_state, all_of}
 use Rattle.lv_syntax.proofs.WordKinds.{and_first, and_second, variable_family}
@@ -38,19 +39,6 @@ use Rattle.lv_syntax.proofs.FormulaSound.{sorts_of, variable_there}
 pub each_length : {X : Type 0} {Spells : X → Tree → Type 0} {xs : List X} {ts : List Tree} → Each Spells xs ts → length ts ≡ length xs
 each_length nothing = refl
 each_length (first_and_rest is rest) = ap suc (each_length rest)
-
--- ---- trees
-
-pub worded_again : (l : Tree-F Tree) (text : List ℕ) → Trees.word_layer l ≡ Some text → (at : ℕ) × (l ≡ Word at text)
-worded_again (Word at t) text e = let q : t ≡ text = cc in (at, ap (Word at) q)
-worded_again (Group at end items) text e = absurd cc
-
-pub listed_again : (l : Tree-F Tree) (items : List Tree) → Trees.items_layer l ≡ Some items → (at : ℕ) × (end : ℕ) × (l ≡ Group at end items)
-listed_again (Word at t) items e = absurd cc
-listed_again (Group at end ts) items e = let q : ts ≡ items = cc in (at, end, ap (Group at end) q)
-
-pub word_again : (t : Tree) (text : List ℕ) → IsWord text t → (at : ℕ) × (word_in t ≡ done (record { at = at; text = text }))
-word_again t text e = let w = worded_again (out-Tree t) text e in (w.0, ap word_layer w.1)
 
 -- ---- variables
 

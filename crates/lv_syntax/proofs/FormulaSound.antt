@@ -29,11 +29,11 @@ use Rattle.lv_syntax.specs.declared.words.Family.{Family}
 use Rattle.lv_syntax.specs.declared.words.Family.TheVariants as Fam
 use Rattle.lv_syntax.specs.declared.words.Keyword.{Keyword}
 use Rattle.lv_syntax.specs.declared.words.Keyword.TheVariants as K
-use Rattle.lv_syntax.specs.Given.{Worded, word_in, Headed, headed_items}
+use Rattle.lv_reading.specs.Given.{Worded, word_in, Headed, headed_items}
 use Rattle.lv_syntax.specs.Words.{keyword_of, family_of}
 use Rattle.lv_syntax.specs.Names.{relation_at, constant_at, new_variable, sort_in, is_temporal}
 use Rattle.lv_syntax.specs.Formulas.{sort_at, variable_term, constant_term, term_by, term_in, term_of_sort, terms_in, bare_atom, fail_arity, listed_atom, equation_in, Reader, each, one_part, two_parts, bound_part, equivalence_in, operator_in, list_by, list_formula, word_by, flat, layer, formula_of, state_formula, state_formulas}
-use Rattle.lv_syntax.proofs.Steps.{done, ok_is, bound, passes, passed, nothing_left, one_more, word_found, Heads, heads}
+use Rattle.lv_reading.proofs.Steps.{done, ok_is, bound, passes, passed, nothing_left, one_more, word_found, Heads, heads}
 use Rattle.lv_syntax.proofs.Keywords.{keyword_is, keyword_word}
 use Rattle.lv_syntax.proofs.Families.{NewVariable, variable_found}
 use Rattle.lv_syntax.proofs.Knowing.{Means, Knows}

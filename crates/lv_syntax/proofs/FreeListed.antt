@@ -12,7 +12,7 @@ use Rattle.lv_labels.specs.Once.{is_among, once_behind}
 use Rattle.lv_labels.specs.Renaming.{occurrences_of, free_variables}
 use Rattle.lv_grammar.specs.LabelLimits.{numbers_eq, parameter_numbers}
 use Rattle.lv_syntax.specs.Labelling.{free_name}
-use Rattle.lv_syntax.proofs.Steps.{done, passed}
+use Rattle.lv_reading.proofs.Steps.{done, passed}
 use Rattle.lv_syntax.proofs.WordKinds.{or_first, or_second}
 use Rattle.lv_syntax.proofs.FormulaSound.{not_false}
 

@@ -1,10 +1,10 @@
 -- Results that are found one after the other, as a loop finds them.
 use Rattle.std.proofs.Common.{◌≡◌, List, [], ◌∷◌, ◌++◌, Result, Ok, Err, refl, sym, ap, ◌∙◌, append_assoc}
 use Rattle.std.proofs.lemmas.List.{append-nil}
-use Rattle.lv_syntax.specs.declared.fault.SyntaxFault.{SyntaxFault}
-use Rattle.lv_syntax.specs.declared.fault.ReadText.{ReadText}
-use Rattle.lv_syntax.specs.declared.fault.ReadText.TheVariants.{Refused, Memory}
-use Rattle.lv_syntax.specs.Given.{Fails}
+use Rattle.lv_reading.specs.declared.fault.SyntaxFault.{SyntaxFault}
+use Rattle.lv_reading.specs.declared.fault.ReadText.{ReadText}
+use Rattle.lv_reading.specs.declared.fault.ReadText.TheVariants.{Refused, Memory}
+use Rattle.lv_reading.specs.Given.{Fails}
 
 -- what is left to find, behind what was found
 abbrev pub with_front : {A : Type 0} → List A → Result (List A) SyntaxFault → Result (List A) SyntaxFault

@@ -7,10 +7,10 @@ use Rattle.lv_system.specs.declared.parts.ActionUpdate.{ActionUpdate}
 use Rattle.lv_grammar.specs.Words.{Variable}
 use Rattle.lv_syntax.specs.declared.draft.Draft.{Draft}
 use Rattle.lv_syntax.specs.declared.items.ItemKind.{ItemKind}
-use Rattle.lv_syntax.specs.declared.fault.SyntaxFault.{SyntaxFault}
-use Rattle.lv_syntax.specs.declared.fault.ReadText.{ReadText}
-use Rattle.lv_syntax.specs.declared.fault.ReadText.TheVariants.{Refused, Memory}
-use Rattle.lv_syntax.specs.Given.{◌>>=◌, Fails}
+use Rattle.lv_reading.specs.declared.fault.SyntaxFault.{SyntaxFault}
+use Rattle.lv_reading.specs.declared.fault.ReadText.{ReadText}
+use Rattle.lv_reading.specs.declared.fault.ReadText.TheVariants.{Refused, Memory}
+use Rattle.lv_reading.specs.Given.{◌>>=◌, Fails}
 use Rattle.lv_syntax.specs.Items.{update_in, updates_in, step, items_of}
 
 updates_split : (d : Draft) (vs : List Variable) (done : List ActionUpdate) (ts : List Tree) (i : ℕ) (t : Tree) → t ≡ get_or ts i t → i < length ts

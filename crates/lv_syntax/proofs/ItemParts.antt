@@ -21,12 +21,12 @@ use Rattle.lv_grammar.specs.Words.{Variable, is_new_variable, are_new_variables,
 use Rattle.lv_grammar.specs.Lifted.{lifted}
 use Rattle.lv_syntax.specs.declared.draft.Draft.{Draft}
 use Rattle.lv_syntax.specs.declared.draft.Role.{Role}
-use Rattle.lv_syntax.specs.Given.{place_of, word_in, list_in}
+use Rattle.lv_reading.specs.Given.{place_of, word_in, list_in}
 use Rattle.lv_syntax.specs.Names.{new_name, new_variable, sort_in, is_temporal}
 use Rattle.lv_syntax.specs.Formulas.{formula_of, temporal_in, formula_in, lone_formula, state_formula}
 use Rattle.lv_syntax.specs.Items.{marked_by, mark_in, sorts_from, Declared, pairs_from, parameters_in, variables_of, scope_of, sorts_of, name_in, Opened, opened_in, sorts_in}
-use Rattle.lv_syntax.proofs.Steps.{done, ok_is, bound, passed, nothing_left, one_more, word_found, list_found}
-use Rattle.lv_syntax.proofs.Keywords.{same_is}
+use Rattle.lv_reading.proofs.Steps.{done, ok_is, bound, passed, nothing_left, one_more, word_found, list_found}
+use Rattle.lv_reading.proofs.SameTexts.{same_is}
 use Rattle.lv_syntax.proofs.Families.{variable_found, NewName, name_found}
 use Rattle.lv_syntax.proofs.Knowing.{Knows}
 use Rattle.lv_syntax.proofs.Stage.{Within}

@@ -16,11 +16,11 @@ use Rattle.lv_syntax.specs.declared.draft.Draft.{Draft}
 use Rattle.lv_syntax.specs.declared.draft.Role.TheVariants as R
 use Rattle.lv_syntax.specs.declared.items.ItemKind.{ItemKind}
 use Rattle.lv_syntax.specs.declared.items.ItemKind.TheVariants as I
-use Rattle.lv_syntax.specs.Given.{headed, Headed}
+use Rattle.lv_reading.specs.Given.{headed, Headed}
 use Rattle.lv_syntax.specs.Formulas.{lone_formula}
 use Rattle.lv_syntax.specs.Items.{sort_item, relation_item, constant_item, action_item, fair_item, Labelling, label_item, witness_item, property_item, invariant_item, first_kinds, last_kinds, kind_or, kind_of, rank_of, lacks_property, is_full, in_order, with_item, kind_at, step}
-use Rattle.lv_syntax.proofs.Steps.{done, ok_is, bound, passes, passed, head_found}
-use Rattle.lv_syntax.proofs.Keywords.{same_is}
+use Rattle.lv_reading.proofs.Steps.{done, ok_is, bound, passes, passed, head_found}
+use Rattle.lv_reading.proofs.SameTexts.{same_is}
 use Rattle.lv_syntax.proofs.WordKinds.{or_first, or_second}
 use Rattle.lv_syntax.proofs.ActionSound.{Opening, opening}
 

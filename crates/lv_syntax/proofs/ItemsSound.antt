@@ -27,11 +27,11 @@ use Rattle.lv_grammar.specs.LabelLimits.{numbers_eq, parameter_numbers, lists_fr
 use Rattle.lv_grammar.specs.Words.{is_new_variable}
 use Rattle.lv_syntax.specs.declared.draft.Draft.{Draft}
 use Rattle.lv_syntax.specs.declared.draft.Role.TheVariants as R
-use Rattle.lv_syntax.specs.Given.{Headed}
+use Rattle.lv_reading.specs.Given.{Headed}
 use Rattle.lv_syntax.specs.Names.{sort_in}
 use Rattle.lv_syntax.specs.Formulas.{lone_formula}
 use Rattle.lv_syntax.specs.Items.{Declared, variables_of, scope_of, sorts_of, places_of, name_in, mark_in, sorts_in, opened_in, sort_item, relation_item, constant_item, fair_item, invariant_item, Labelling}
-use Rattle.lv_syntax.proofs.Steps.{done, ok_is, bound, one_more, list_found}
+use Rattle.lv_reading.proofs.Steps.{done, ok_is, bound, one_more, list_found}
 use Rattle.lv_syntax.proofs.Families.{variable_found}
 use Rattle.lv_syntax.proofs.Knowing.{Knows}
 use Rattle.lv_syntax.proofs.Stage.{Within}

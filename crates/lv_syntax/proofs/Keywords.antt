@@ -4,20 +4,8 @@ use Rattle.std.proofs.lemmas.Bool.{eqb-true, eq-eqb}
 use Rattle.lv_system.specs.Names.{same_text}
 use Rattle.lv_syntax.specs.declared.words.Keyword.{Keyword}
 use Rattle.lv_syntax.specs.declared.words.Keyword.TheVariants as K
+use Rattle.lv_reading.proofs.SameTexts.{same_is}
 use Rattle.lv_syntax.specs.Words.{keyword_of, constant_keyword, connective_keyword, or_else}
-
-pub same_is : (a b : List ℕ) → same_text a b ≡ true → a ≡ b
-same_is [] [] e = refl
-same_is [] (y ∷ ys) e = absurd cc
-same_is (x ∷ xs) [] e = absurd cc
-same_is (x ∷ xs) (y ∷ ys) e = go (eqb x y) refl (same_is xs ys) e where
-  go : (b : Bool) → eqb x y ≡ b → (same_text xs ys ≡ true → xs ≡ ys) → (b && same_text xs ys) ≡ true → x ∷ xs ≡ y ∷ ys
-  go true b rest e = ap₂ (λ z zs. z ∷ zs) (eqb-true x y b) (rest e)
-  go false b rest e = absurd cc
-
-pub same_self : (a : List ℕ) → same_text a a ≡ true
-same_self [] = refl
-same_self (x ∷ xs) = rw (eq-eqb x x refl) (same_self xs)
 
 -- the word of a keyword
 abbrev pub keyword_word : Keyword → List ℕ

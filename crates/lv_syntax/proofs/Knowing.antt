@@ -14,7 +14,7 @@ use Rattle.lv_syntax.specs.declared.draft.Role.{Role}
 use Rattle.lv_syntax.specs.Words.{keyword_of, family_of}
 use Rattle.lv_syntax.specs.Names.{Predicate, relation_at, constant_at, sort_in}
 use Rattle.lv_syntax.specs.Formulas.{term_by}
-use Rattle.lv_syntax.proofs.Steps.{done}
+use Rattle.lv_reading.proofs.Steps.{done}
 
 -- the text is the symbol's word, and texts may use it
 pub record Means (p : Parts) (sym : Sym) (text : List ℕ) : Type 0 where

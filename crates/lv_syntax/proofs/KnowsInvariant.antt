@@ -24,7 +24,7 @@ use Rattle.lv_syntax.specs.declared.words.Family.{Family}
 use Rattle.lv_syntax.specs.declared.words.Family.TheVariants as Fam
 use Rattle.lv_syntax.specs.Words.{family_of, behind, or_else}
 use Rattle.lv_syntax.specs.Names.{named, Said, Relation, Constant, Other, with_shape, symbol_said, witness_said, fair_said, key_found, found_said, label_said, name_said, set_said, due_said, changing_said, copy_said, if_behind, or_unknown, name_or_unknown, dotted_said, said_by, said, permitted, Predicate, as_relation, relation_at, as_constant, constant_at}
-use Rattle.lv_syntax.proofs.Steps.{done, ok_is, bound}
+use Rattle.lv_reading.proofs.Steps.{done, ok_is, bound}
 use Rattle.lv_syntax.proofs.Families.{Says, family_says}
 use Rattle.lv_syntax.proofs.Positions.{Found}
 use Rattle.lv_syntax.proofs.Naming.{sort_name, symbol_name, fair_name, label_name, witness_name, named_is}

@@ -24,10 +24,10 @@ use Rattle.lv_syntax.specs.declared.draft.Role.{Role}
 use Rattle.lv_syntax.specs.declared.draft.Role.TheVariants as R
 use Rattle.lv_syntax.specs.declared.words.Family.{Family}
 use Rattle.lv_syntax.specs.declared.words.Family.TheVariants as Fam
-use Rattle.lv_syntax.specs.Given.{word_in}
+use Rattle.lv_reading.specs.Given.{word_in}
 use Rattle.lv_syntax.specs.Words.{family_of}
 use Rattle.lv_syntax.specs.Names.{named, sort_named, sort_by, sort_in, Said, Relation, Constant, Other, with_shape, symbol_said, witness_said, key_found, found_said, label_said, name_said, is_invariant, name_or_unknown, said_by, said, is_fixed_symbol, permitted, Predicate, as_relation, relation_at, as_constant, constant_at}
-use Rattle.lv_syntax.proofs.Steps.{done, ok_is, bound, passes, word_found}
+use Rattle.lv_reading.proofs.Steps.{done, ok_is, bound, passes, word_found}
 use Rattle.lv_syntax.proofs.Positions.{Found}
 use Rattle.lv_syntax.proofs.Naming.{sort_name, symbol_name, witness_name, named_is}
 use Rattle.lv_syntax.proofs.Knowing.{Means, Knows}

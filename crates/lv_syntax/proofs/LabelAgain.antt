@@ -21,12 +21,12 @@ use Rattle.lv_syntax.specs.declared.draft.Role.TheVariants as R
 use Rattle.lv_syntax.specs.Names.{is_temporal}
 use Rattle.lv_syntax.specs.Labelling.{operator_places, path_in, own_number, free_name}
 use Rattle.lv_syntax.specs.Items.{Declared, sorts_of, places_of, always_in, label_checked}
-use Rattle.lv_syntax.proofs.Steps.{done}
+use Rattle.lv_reading.proofs.Steps.{done}
 use Rattle.lv_syntax.proofs.Knowing.{Finds}
 use Rattle.lv_syntax.proofs.WordKinds.{and_first, and_second}
 use Rattle.lv_syntax.proofs.FormulaSound as Sound
 use Rattle.lv_syntax.proofs.FormulaAgain.{AreNamed}
-use Rattle.lv_syntax.proofs.ReadersAgain.{headed_by}
+use Rattle.lv_reading.proofs.TreesAgain.{headed_by}
 use Rattle.lv_syntax.proofs.LoneAgain.{temporal_again}
 use Rattle.lv_syntax.proofs.TableLaws.{Grown, known_after, place_grown, add_again}
 use Rattle.lv_syntax.proofs.OperatorPlaces.{places_fit}

@@ -18,10 +18,10 @@ use Rattle.lv_syntax.specs.declared.draft.Role.{Role}
 use Rattle.lv_syntax.specs.declared.draft.Role.TheVariants as R
 use Rattle.lv_syntax.specs.declared.items.ItemKind.{ItemKind}
 use Rattle.lv_syntax.specs.declared.items.ItemKind.TheVariants as I
-use Rattle.lv_syntax.specs.Given.{Headed}
+use Rattle.lv_reading.specs.Given.{Headed}
 use Rattle.lv_syntax.specs.Labelling.{operator_places, add_labels, own_number}
 use Rattle.lv_syntax.specs.Items.{scope_of, sorts_of, Labelling, rank_of, is_full}
-use Rattle.lv_syntax.proofs.Steps.{done, ok_is, passed}
+use Rattle.lv_reading.proofs.Steps.{done, ok_is, passed}
 use Rattle.lv_syntax.proofs.WordKinds.{or_first, or_second}
 use Rattle.lv_syntax.proofs.FreeListed.{Apart, apart_further}
 use Rattle.lv_syntax.proofs.ItemParts.{scope_sorts}

@@ -22,12 +22,12 @@ use Rattle.lv_syntax.specs.declared.draft.Draft.{Draft}
 use Rattle.lv_syntax.specs.declared.draft.Role.TheVariants as R
 use Rattle.lv_syntax.specs.declared.items.ItemKind.{ItemKind}
 use Rattle.lv_syntax.specs.declared.items.ItemKind.TheVariants as I
-use Rattle.lv_syntax.specs.Given.{place_of, Headed}
+use Rattle.lv_reading.specs.Given.{place_of, Headed}
 use Rattle.lv_syntax.specs.Names.{new_name}
 use Rattle.lv_syntax.specs.Formulas.{lone_formula}
 use Rattle.lv_syntax.specs.Labelling.{path_in}
 use Rattle.lv_syntax.specs.Items.{first_kinds, last_kinds, rank_of, step, name_in, invariant_item, always_in, label_checked, label_item, one_pair, witness_item, property_item, with_item}
-use Rattle.lv_syntax.proofs.Steps.{done}
+use Rattle.lv_reading.proofs.Steps.{done}
 use Rattle.lv_syntax.proofs.Naming.{label_name, witness_name, invariant_name, taken}
 use Rattle.lv_syntax.proofs.Stage.{Begins, taken_once}
 use Rattle.lv_syntax.proofs.FindsOwn.{Complete, finds_path, finds_witness}
@@ -35,7 +35,8 @@ use Rattle.lv_syntax.proofs.FindsInvariant.{AllRead, finds_invariant}
 use Rattle.lv_syntax.proofs.LabelFacts.{LabelsFound}
 use Rattle.lv_syntax.proofs.WordKinds.{and_first, and_second}
 use Rattle.lv_syntax.proofs.FormulaAgain.{new_again, none_named, one_named}
-use Rattle.lv_syntax.proofs.ReadersAgain.{headed_by, list_again, name_again, SortsRead, ParametersRead, parameters_again, opened_again}
+use Rattle.lv_syntax.proofs.ReadersAgain.{name_again, SortsRead, ParametersRead, parameters_again, opened_again}
+use Rattle.lv_reading.proofs.TreesAgain.{headed_by, list_again}
 use Rattle.lv_syntax.proofs.LoneAgain.{lone_again}
 use Rattle.lv_syntax.proofs.Stages.{number_in, table, stage, begins_none, begins_all, begins_front, begins_next, not_full, at_next, name_next, counted_next, names_by_kind, complete_stage, step_again, StepLaw}
 use Rattle.lv_syntax.proofs.AllFits.{AllFit}

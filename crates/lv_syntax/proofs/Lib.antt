@@ -44,7 +44,6 @@ pub mod Stage
 pub mod Stages
 pub mod StateFits
 pub mod Stateless
-pub mod Steps
 pub mod SystemAgain
 pub mod SystemSound
 pub mod TableLaws

@@ -25,7 +25,7 @@ use Rattle.lv_syntax.specs.declared.draft.Draft.{Draft}
 use Rattle.lv_syntax.specs.declared.draft.Role.{Role}
 use Rattle.lv_syntax.specs.Names.{is_temporal}
 use Rattle.lv_syntax.specs.Formulas.{temporal_in, state_formula, state_formulas, formula_in, lone_formula}
-use Rattle.lv_syntax.proofs.Steps.{done}
+use Rattle.lv_reading.proofs.Steps.{done}
 use Rattle.lv_syntax.proofs.Knowing.{Finds}
 use Rattle.lv_syntax.proofs.Stateless.{is_state, all_of}
 use Rattle.lv_syntax.proofs.StateFits.{fits_alike, same_nodes, same_iffs, same_lists}

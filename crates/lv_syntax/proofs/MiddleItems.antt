@@ -26,18 +26,19 @@ use Rattle.lv_grammar.specs.Grammar.{Each, nothing, first_and_rest, IsWord, IsFo
 use Rattle.lv_syntax.specs.declared.draft.Draft.{Draft}
 use Rattle.lv_syntax.specs.declared.draft.Role.TheVariants as R
 use Rattle.lv_syntax.specs.declared.items.ItemKind.TheVariants as I
-use Rattle.lv_syntax.specs.Given.{Headed}
+use Rattle.lv_reading.specs.Given.{Headed}
 use Rattle.lv_syntax.specs.Names.{new_name}
 use Rattle.lv_syntax.specs.Formulas.{lone_formula}
 use Rattle.lv_syntax.specs.Items.{first_kinds, last_kinds, guard_in, target_in, relation_update, constant_update, update_in, updates_in, action_item, fair_item, with_item}
-use Rattle.lv_syntax.proofs.Steps.{done}
+use Rattle.lv_reading.proofs.Steps.{done}
 use Rattle.lv_syntax.proofs.Naming.{action_name, fair_name, taken}
 use Rattle.lv_syntax.proofs.Stage.{Begins, taken_once}
 use Rattle.lv_syntax.proofs.FindsOwn.{Complete, finds_state, own_found, relation_shape, constant_shape}
 use Rattle.lv_syntax.proofs.WordKinds.{and_first, and_second, name_family}
 use Rattle.lv_syntax.proofs.FormulaSound as Sound
-use Rattle.lv_syntax.proofs.FormulaAgain.{word_again, not_not, sorted_again}
-use Rattle.lv_syntax.proofs.ReadersAgain.{headed_by, name_again, scope_sorts, AllNamed, all_named, both_named, turned_named, new_named, ParametersRead, parameters_again, opened_again, arguments_again}
+use Rattle.lv_syntax.proofs.FormulaAgain.{not_not, sorted_again}
+use Rattle.lv_reading.proofs.TreesAgain.{word_again, headed_by}
+use Rattle.lv_syntax.proofs.ReadersAgain.{name_again, scope_sorts, AllNamed, all_named, both_named, turned_named, new_named, ParametersRead, parameters_again, opened_again, arguments_again}
 use Rattle.lv_syntax.proofs.LoneAgain.{lone_again}
 use Rattle.lv_syntax.proofs.Stages.{stage, begins_none, begins_all, begins_front, begins_next, not_full, at_next, name_next, counted_next, names_by_kind, complete_stage, step_again, StepLaw}
 use Rattle.lv_syntax.proofs.AllFits.{AllFit}

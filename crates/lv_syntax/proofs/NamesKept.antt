@@ -18,12 +18,12 @@ use Rattle.lv_syntax.specs.declared.draft.Draft.{Draft}
 use Rattle.lv_syntax.specs.declared.draft.Role.TheVariants as R
 use Rattle.lv_syntax.specs.declared.items.ItemKind.{ItemKind}
 use Rattle.lv_syntax.specs.declared.items.ItemKind.TheVariants as I
-use Rattle.lv_syntax.specs.Given.{Headed}
+use Rattle.lv_reading.specs.Given.{Headed}
 use Rattle.lv_syntax.specs.Names.{named, sort_in}
 use Rattle.lv_syntax.specs.Formulas.{lone_formula}
 use Rattle.lv_syntax.specs.Items.{scope_of, sorts_of, name_in, mark_in, sorts_in, parameters_in, Opened, opened_in, guard_in, updates_in, sort_item, relation_item, constant_item, action_item, fair_item, invariant_item, Labelling, no_items}
-use Rattle.lv_syntax.proofs.Steps.{done, ok_is, bound, one_more}
-use Rattle.lv_syntax.proofs.Keywords.{same_is, same_self}
+use Rattle.lv_reading.proofs.Steps.{done, ok_is, bound, one_more}
+use Rattle.lv_reading.proofs.SameTexts.{same_is, same_self}
 use Rattle.lv_syntax.proofs.Positions.{count}
 use Rattle.lv_syntax.proofs.Naming.{sort_name, symbol_name, action_name, fair_name, label_name, witness_name, invariant_name, one_where, taken, free_taken}
 use Rattle.lv_syntax.proofs.Stage.{count_both}

@@ -13,7 +13,7 @@ use Rattle.lv_syntax.specs.declared.draft.Named.{Named}
 use Rattle.lv_syntax.specs.declared.draft.Named.TheVariants as N
 use Rattle.lv_syntax.specs.Words.{or_else}
 use Rattle.lv_syntax.specs.Names.{numbered, named}
-use Rattle.lv_syntax.proofs.Keywords.{same_is}
+use Rattle.lv_reading.proofs.SameTexts.{same_is}
 use Rattle.lv_syntax.proofs.Positions.{count, Found, position_is, none_where_none, no_position, counted, position_again}
 
 abbrev pub sort_name : Sort → List ℕ

@@ -21,13 +21,14 @@ use Rattle.lv_syntax.specs.declared.draft.Draft.{Draft}
 use Rattle.lv_syntax.specs.declared.draft.Role.{Role}
 use Rattle.lv_syntax.specs.declared.words.Keyword.{Keyword}
 use Rattle.lv_syntax.specs.declared.words.Keyword.TheVariants as K
-use Rattle.lv_syntax.specs.Given.{word_in, Headed, headed_items}
+use Rattle.lv_reading.specs.Given.{word_in, Headed, headed_items}
 use Rattle.lv_syntax.specs.Words.{keyword_of, constant_keyword}
 use Rattle.lv_syntax.specs.Names.{relation_at, new_variable, sort_in, is_temporal}
 use Rattle.lv_syntax.specs.Formulas.{term_in, term_of_sort, terms_in, bare_atom, fail_arity, listed_atom, equation_in, Reader, each, one_part, two_parts, bound_part, equivalence_in, operator_in, list_by, list_formula, word_by, flat, layer, formula_of, temporal_in}
 use Rattle.lv_syntax.specs.Labelling.{Marked, is_operator, place_by, own_place, places_each, marked_step, operator_places}
-use Rattle.lv_syntax.proofs.Steps.{done, ok_is, bound, passes, passed, nothing_left, one_more, word_found, Heads, heads}
-use Rattle.lv_syntax.proofs.Keywords.{same_is, keyword_is, keyword_word}
+use Rattle.lv_reading.proofs.Steps.{done, ok_is, bound, passes, passed, nothing_left, one_more, word_found, Heads, heads}
+use Rattle.lv_reading.proofs.SameTexts.{same_is}
+use Rattle.lv_syntax.proofs.Keywords.{keyword_is, keyword_word}
 use Rattle.lv_syntax.proofs.FormulaSound.{not_false}
 
 -- ---- places in trees

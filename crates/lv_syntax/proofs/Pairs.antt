@@ -4,7 +4,7 @@ use Rattle.std.proofs.lemmas.List.{take_all}
 use Rattle.lv_tree.specs.declared.tree.Tree.{Tree}
 use Rattle.lv_formula.specs.declared.symbols.SortId.{SortId}
 use Rattle.lv_syntax.specs.declared.draft.Draft.{Draft}
-use Rattle.lv_syntax.specs.Given.{place_of}
+use Rattle.lv_reading.specs.Given.{place_of}
 use Rattle.lv_syntax.specs.Names.{sort_in}
 use Rattle.lv_syntax.specs.Items.{Declared}
 use Rattle.lv_syntax.specs.Behind.{parameter_in, pairs_behind}

@@ -17,15 +17,15 @@ use Rattle.lv_grammar.specs.Words.{Variable}
 use Rattle.lv_syntax.specs.declared.draft.Draft.{Draft}
 use Rattle.lv_syntax.specs.declared.draft.Role.{Role}
 use Rattle.lv_syntax.specs.declared.draft.Role.TheVariants as R
-use Rattle.lv_syntax.specs.declared.fault.SyntaxFault.{SyntaxFault}
+use Rattle.lv_reading.specs.declared.fault.SyntaxFault.{SyntaxFault}
 use Rattle.lv_syntax.specs.declared.words.Keyword.TheVariants as K
-use Rattle.lv_syntax.specs.Given.{headed, headed_items, headed_layer, Headed, list_in, Listed}
+use Rattle.lv_reading.specs.Given.{headed, headed_items, headed_layer, Headed, list_in, Listed}
 use Rattle.lv_syntax.specs.Words.{keyword_of, constant_keyword}
 use Rattle.lv_syntax.specs.Names.{new_variable, sort_in, is_temporal}
 use Rattle.lv_syntax.specs.Formulas.{Reader, temporal_in, formula_of, layer, list_formula, list_by, operator_in, one_part}
 use Rattle.lv_syntax.specs.Labelling.{operator_places, add_labels, path_in, own_number, free_name}
 use Rattle.lv_syntax.specs.Items.{scope_of, sorts_of, places_of, name_in, Opened, opened_in, always_in, Labelling, label_checked, place_of_first, label_item, one_pair, witness_item, property_item}
-use Rattle.lv_syntax.proofs.Steps.{done, ok_is, bound, passed, nothing_left, one_more}
+use Rattle.lv_reading.proofs.Steps.{done, ok_is, bound, passed, nothing_left, one_more}
 use Rattle.lv_syntax.proofs.ItemParts.{word_is}
 
 -- a temporal formula and the table with its labels

@@ -2,7 +2,7 @@
 use Rattle.std.proofs.Common.{◌≡◌, ℕ, zero, suc, ◌+◌, ◌≤◌, Bool, true, false, cond, if◌then◌else◌, List, [], ◌∷◌, map, slice_get, Some, None, refl, ap, subst, ◌∙◌, arith}
 use Rattle.lv_system.specs.Names.{same_text, occurrences}
 use Rattle.lv_syntax.specs.Names.{position_of}
-use Rattle.lv_syntax.proofs.Keywords.{same_is, same_self}
+use Rattle.lv_reading.proofs.SameTexts.{same_is, same_self}
 
 module _ {A : Type 0} (name : A → List ℕ) where
   -- how many items have the name

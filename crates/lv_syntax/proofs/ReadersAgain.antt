@@ -11,35 +11,16 @@ use Rattle.lv_system.specs.Names.{are_name_bytes, begins_small, is_name}
 use Rattle.lv_grammar.specs.Words.{Variable, is_variable, is_new_variable, are_new_variables, sort_name}
 use Rattle.lv_grammar.specs.Grammar.{Each, nothing, first_and_rest, IsWord, IsList, IsMark, without, with_word, ArePairs, no_pairs, pairs, AreParameters, AreNames}
 use Rattle.lv_syntax.specs.declared.draft.Draft.{Draft}
-use Rattle.lv_syntax.specs.Given.{place_of, list_layer, list_in, headed_items, headed_layer, headed}
+use Rattle.lv_reading.specs.Given.{place_of, list_layer, list_in, headed_items, headed_layer, headed}
 use Rattle.lv_syntax.specs.Names.{new_name, sort_in}
 use Rattle.lv_syntax.specs.Items.{mark_in, sorts_from, sorts_in, Declared, pairs_from, parameters_in, variables_of, scope_of, sorts_of, name_in, opened_in, arguments_from, arguments_in}
-use Rattle.lv_syntax.proofs.Steps.{done}
-use Rattle.lv_syntax.proofs.Keywords.{same_self}
+use Rattle.lv_reading.proofs.Steps.{done}
+use Rattle.lv_reading.proofs.SameTexts.{same_self}
 use Rattle.lv_syntax.proofs.Naming.{taken, taken_free}
 use Rattle.lv_syntax.proofs.WordKinds.{and_first, and_second, name_family}
 use Rattle.lv_syntax.proofs.FormulaSound as Sound
-use Rattle.lv_syntax.proofs.FormulaAgain.{listed_again, word_again, not_long, new_again, AreNamed, none_named, one_named}
-
--- ---- trees
-
--- the list begins with the word, at some places
-pub record HeadedBy (t : Tree) (items : List Tree) (text : List ℕ) : Type 0 where
-  pub at : ℕ
-  pub end : ℕ
-  pub word_at : ℕ
-  pub is : headed t ≡ done (record { at = at; end = end; word = record { at = word_at; text = text }; rest = items })
-
-pub headed_by : (t h : Tree) (items : List Tree) (text : List ℕ) → IsList (h ∷ items) t → IsWord text h → HeadedBy t items text
-unfolding headed_items
-headed_by t h items text list word =
-    let l = listed_again (out-Tree t) (h ∷ items) list in
-    let w = word_again h text word in
-    let first : headed_items l.0 l.1 (h ∷ items) ≡ done (record { at = l.0; end = l.1; word = record { at = w.0; text = text }; rest = items }) = rw w.1 refl in
-    record { at = l.0; end = l.1; word_at = w.0; is = ap headed_layer l.2 ∙ first }
-
-pub list_again : (t : Tree) (items : List Tree) → IsList items t → (end : ℕ) × (list_in t ≡ done (record { end = end; items = items }))
-list_again t items list = let l = listed_again (out-Tree t) items list in (l.1, ap list_layer l.2)
+use Rattle.lv_syntax.proofs.FormulaAgain.{not_long, new_again, AreNamed, none_named, one_named}
+use Rattle.lv_reading.proofs.TreesAgain.{list_again, word_again}
 
 -- ---- names and marks
 

@@ -6,13 +6,13 @@ use Rattle.lv_system.specs.Fits.{fits_parts}
 use Rattle.std.proofs.Common.{true}
 use Rattle.lv_tree.proofs.Reading.{at_most_one}
 use Rattle.lv_grammar.specs.Spelling.{SpellsSystem}
-use Rattle.lv_syntax.specs.declared.fault.SyntaxFault.{SyntaxFault}
-use Rattle.lv_syntax.specs.declared.fault.ReadText.{ReadText}
-use Rattle.lv_syntax.specs.declared.fault.ReadText.TheVariants.{Refused, Memory}
-use Rattle.lv_syntax.specs.Given.{Gives}
+use Rattle.lv_reading.specs.declared.fault.SyntaxFault.{SyntaxFault}
+use Rattle.lv_reading.specs.declared.fault.ReadText.{ReadText}
+use Rattle.lv_reading.specs.declared.fault.ReadText.TheVariants.{Refused, Memory}
+use Rattle.lv_reading.specs.Given.{Gives}
 use Rattle.lv_syntax.specs.Items.{system_of}
 use Rattle.lv_syntax.specs.Reader.{IsSystemOrMemory, ReadsWhatIsSpelled, SpellsAtMostOne}
-use Rattle.lv_syntax.proofs.Steps.{done, ok_is}
+use Rattle.lv_reading.proofs.Steps.{done, ok_is}
 use Rattle.lv_syntax.proofs.KnowsInvariant.{knows_invariant}
 use Rattle.lv_syntax.proofs.SystemSound.{system_sound}
 use Rattle.lv_syntax.proofs.SystemAgain.{system_again}

@@ -9,11 +9,11 @@ use Rattle.lv_formula.specs.declared.temporal.Temporal.{Temporal}
 use Rattle.lv_grammar.specs.Words.{Variable}
 use Rattle.lv_syntax.specs.declared.draft.Draft.{Draft}
 use Rattle.lv_syntax.specs.declared.draft.Role.{Role}
-use Rattle.lv_syntax.specs.declared.fault.SyntaxFault.{SyntaxFault}
-use Rattle.lv_syntax.specs.declared.fault.Kind.TheVariants.{TooMany}
-use Rattle.lv_syntax.specs.declared.fault.ReadText.{ReadText}
-use Rattle.lv_syntax.specs.declared.fault.ReadText.TheVariants.{Refused, Memory}
-use Rattle.lv_syntax.specs.Given.{◌>>=◌, fail, Fails, Headed, headed_items}
+use Rattle.lv_reading.specs.declared.fault.SyntaxFault.{SyntaxFault}
+use Rattle.lv_reading.specs.declared.fault.Kind.TheVariants.{TooMany}
+use Rattle.lv_reading.specs.declared.fault.ReadText.{ReadText}
+use Rattle.lv_reading.specs.declared.fault.ReadText.TheVariants.{Refused, Memory}
+use Rattle.lv_reading.specs.Given.{◌>>=◌, fail, Fails, Headed, headed_items}
 use Rattle.lv_syntax.specs.Words.{keyword_of}
 use Rattle.lv_syntax.specs.Formulas.{each, word_formula, list_formula, list_by, formula_of}
 use Rattle.lv_syntax.proofs.Fronts.{then_all}

@@ -5,7 +5,7 @@ use Rattle.lv_system.specs.declared.parts.Parts.{Parts}
 use Rattle.lv_system.specs.Names.{same_text, occurrences, each_stands_once, names_of, names_fit, are_names}
 use Rattle.lv_system.proofs.NameLaws.{occurrences_summed}
 use Rattle.lv_syntax.specs.declared.draft.Draft.{Draft}
-use Rattle.lv_syntax.proofs.Keywords.{same_is}
+use Rattle.lv_reading.proofs.SameTexts.{same_is}
 use Rattle.lv_syntax.proofs.Positions.{count, Found}
 use Rattle.lv_syntax.proofs.Naming.{sort_name, symbol_name, action_name, fair_name, label_name, witness_name, invariant_name, taken, own_count, one_where}
 use Rattle.lv_syntax.proofs.WordKinds.{and_first, and_second}

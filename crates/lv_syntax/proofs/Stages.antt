@@ -22,14 +22,14 @@ use Rattle.lv_syntax.specs.declared.draft.Draft.{Draft}
 use Rattle.lv_syntax.specs.declared.items.ItemKind.{ItemKind}
 use Rattle.lv_syntax.specs.Labelling.{own_number}
 use Rattle.lv_syntax.specs.Items.{kind_of, rank_of, lacks_property, is_full, in_order, with_item, step, items_of}
-use Rattle.lv_syntax.proofs.Steps.{done}
-use Rattle.lv_syntax.proofs.Keywords.{same_self}
+use Rattle.lv_reading.proofs.Steps.{done}
+use Rattle.lv_reading.proofs.SameTexts.{same_self}
 use Rattle.lv_syntax.proofs.Positions.{count}
 use Rattle.lv_syntax.proofs.Naming.{sort_name, symbol_name, action_name, fair_name, label_name, witness_name, invariant_name}
 use Rattle.lv_syntax.proofs.Stage.{Begins, Within, count_both}
 use Rattle.lv_syntax.proofs.FindsOwn.{Complete, all_names}
 use Rattle.lv_syntax.proofs.WordKinds.{and_first, and_second}
-use Rattle.lv_syntax.proofs.ReadersAgain.{HeadedBy}
+use Rattle.lv_reading.proofs.TreesAgain.{HeadedBy}
 
 -- ---- drafts
 

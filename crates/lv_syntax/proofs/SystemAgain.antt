@@ -9,10 +9,10 @@ use Rattle.lv_grammar.specs.Spelling.{SpellsSystem}
 use Rattle.lv_syntax.specs.declared.items.ItemKind.{ItemKind}
 use Rattle.lv_syntax.specs.declared.items.ItemKind.TheVariants as I
 use Rattle.lv_syntax.specs.Items.{rank_of, items_of, no_items, system_name, system_of}
-use Rattle.lv_syntax.proofs.Steps.{done}
+use Rattle.lv_reading.proofs.Steps.{done}
 use Rattle.lv_syntax.proofs.WordKinds.{and_first, and_second, name_family}
-use Rattle.lv_syntax.proofs.FormulaAgain.{word_again, not_long}
-use Rattle.lv_syntax.proofs.ReadersAgain.{headed_by}
+use Rattle.lv_syntax.proofs.FormulaAgain.{not_long}
+use Rattle.lv_reading.proofs.TreesAgain.{word_again, headed_by}
 use Rattle.lv_syntax.proofs.Stages.{names_by_kind, items_again}
 use Rattle.lv_syntax.proofs.AllFits.{AllFit, all_fit}
 use Rattle.lv_syntax.proofs.FirstItems.{with_sorts, sort_law, with_symbols, symbol_law, with_axioms, axiom_law, with_inits, init_law}

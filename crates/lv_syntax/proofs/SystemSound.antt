@@ -19,10 +19,10 @@ use Rattle.lv_syntax.specs.declared.items.ItemKind.{ItemKind}
 use Rattle.lv_syntax.specs.declared.items.ItemKind.TheVariants as I
 use Rattle.lv_syntax.specs.declared.words.Family.{Family}
 use Rattle.lv_syntax.specs.declared.words.Family.TheVariants as Fam
-use Rattle.lv_syntax.specs.Given.{word_in, Worded, headed}
+use Rattle.lv_reading.specs.Given.{word_in, Worded, headed}
 use Rattle.lv_syntax.specs.Words.{family_of}
 use Rattle.lv_syntax.specs.Items.{rank_of, step, items_of, no_items, parts_with, system_name_by, system_name, system_of}
-use Rattle.lv_syntax.proofs.Steps.{done, ok_is, bound, passed, one_more, word_found, head_found}
+use Rattle.lv_reading.proofs.Steps.{done, ok_is, bound, passed, one_more, word_found, head_found}
 use Rattle.lv_syntax.proofs.Families.{Says, family_says, short}
 use Rattle.lv_syntax.proofs.Knowing.{Knows}
 use Rattle.lv_syntax.proofs.Stage.{Within}

@@ -7,7 +7,7 @@ use Rattle.lv_labels.specs.Labels.{key_eq, number_of}
 use Rattle.lv_labels.specs.Once.{is_among, once_behind}
 use Rattle.lv_grammar.specs.LabelLimits.{are_narrow}
 use Rattle.lv_syntax.specs.Labelling.{add_labels}
-use Rattle.lv_syntax.proofs.Steps.{done}
+use Rattle.lv_reading.proofs.Steps.{done}
 use Rattle.lv_syntax.proofs.WordKinds.{and_first, and_second}
 use Rattle.lv_syntax.proofs.KeyTest.{key_is, key_self}
 

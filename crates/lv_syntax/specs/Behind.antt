@@ -6,9 +6,9 @@ use Rattle.lv_formula.specs.declared.terms.Term.{Term}
 use Rattle.lv_grammar.specs.Words.{Variable}
 use Rattle.lv_syntax.specs.declared.draft.Draft.{Draft}
 use Rattle.lv_syntax.specs.declared.draft.Role.{Role}
-use Rattle.lv_syntax.specs.declared.fault.Kind.TheVariants.{Missing, TooMany}
-use Rattle.lv_syntax.specs.declared.fault.SyntaxFault.{SyntaxFault}
-use Rattle.lv_syntax.specs.Given.{◌>>=◌, fail, fail_if, place_of, next_of, ended}
+use Rattle.lv_reading.specs.declared.fault.Kind.TheVariants.{Missing, TooMany}
+use Rattle.lv_reading.specs.declared.fault.SyntaxFault.{SyntaxFault}
+use Rattle.lv_reading.specs.Given.{◌>>=◌, fail, fail_if, place_of, next_of, ended}
 use Rattle.lv_syntax.specs.Names.{new_variable, sort_in}
 use Rattle.lv_syntax.specs.Formulas.{term_of_sort}
 use Rattle.lv_syntax.specs.Items.{Declared, scope_of}

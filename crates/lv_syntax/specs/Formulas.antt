@@ -15,15 +15,15 @@ use Rattle.lv_formula.specs.TemporalMeasures.{temporal_nodes_of}
 use Rattle.lv_grammar.specs.Words.{Variable, variable_number}
 use Rattle.lv_syntax.specs.declared.draft.Draft.{Draft}
 use Rattle.lv_syntax.specs.declared.draft.Role.{Role}
-use Rattle.lv_syntax.specs.declared.fault.Kind.TheVariants.{Unexpected, Missing, UnknownName, WrongArity, WrongSort, TooMany}
-use Rattle.lv_syntax.specs.declared.fault.SyntaxFault.{SyntaxFault}
+use Rattle.lv_reading.specs.declared.fault.Kind.TheVariants.{Unexpected, Missing, UnknownName, WrongArity, WrongSort, TooMany}
+use Rattle.lv_reading.specs.declared.fault.SyntaxFault.{SyntaxFault}
 use Rattle.lv_syntax.specs.declared.words.Family.{Family}
 use Rattle.lv_syntax.specs.declared.words.Family.TheVariants as Fam
 use Rattle.lv_syntax.specs.declared.words.Keyword.{Keyword}
 use Rattle.lv_syntax.specs.declared.words.Keyword.TheVariants as K
 use Rattle.lv_syntax.specs.Words.{keyword_of, family_of}
 use Rattle.lv_syntax.specs.Names.{relation_at, constant_at, new_variable, sort_in, is_temporal}
-use Rattle.lv_syntax.specs.Given.{◌>>=◌, fail, fail_if, place_of, next_of, ended, word_in, Worded, Headed, headed_items}
+use Rattle.lv_reading.specs.Given.{◌>>=◌, fail, fail_if, place_of, next_of, ended, word_in, Worded, Headed, headed_items}
 
 -- ---- terms, with their sorts
 

@@ -29,15 +29,15 @@ use Rattle.lv_syntax.specs.declared.draft.Named.TheVariants as N
 use Rattle.lv_syntax.specs.declared.draft.Role.TheVariants as R
 use Rattle.lv_syntax.specs.declared.items.ItemKind.{ItemKind}
 use Rattle.lv_syntax.specs.declared.items.ItemKind.TheVariants as I
-use Rattle.lv_syntax.specs.declared.fault.Kind.TheVariants.{Unexpected, Missing, UnknownName, TwiceNamed, IsFixed, SetTwice, TooMany}
-use Rattle.lv_syntax.specs.declared.fault.SyntaxFault.{SyntaxFault}
+use Rattle.lv_reading.specs.declared.fault.Kind.TheVariants.{Unexpected, Missing, UnknownName, TwiceNamed, IsFixed, SetTwice, TooMany}
+use Rattle.lv_reading.specs.declared.fault.SyntaxFault.{SyntaxFault}
 use Rattle.lv_syntax.specs.declared.words.Family.{Family}
 use Rattle.lv_syntax.specs.declared.words.Family.TheVariants as Fam
 use Rattle.lv_syntax.specs.Words.{family_of}
 use Rattle.lv_syntax.specs.Names.{named, new_name, new_variable, sort_in}
 use Rattle.lv_syntax.specs.Formulas.{lone_formula, term_of_sort}
 use Rattle.lv_syntax.specs.Labelling.{path_in, own_number, free_name}
-use Rattle.lv_syntax.specs.Given.{◌>>=◌, fail, fail_if, place_of, next_of, ended, word_in, list_in, headed, Headed}
+use Rattle.lv_reading.specs.Given.{◌>>=◌, fail, fail_if, place_of, next_of, ended, word_in, list_in, headed, Headed}
 
 -- ---- what items have in common
 

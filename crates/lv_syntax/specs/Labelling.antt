@@ -11,10 +11,10 @@ use Rattle.lv_labels.specs.Once.{once_behind}
 use Rattle.lv_grammar.specs.Words.{Variable}
 use Rattle.lv_syntax.specs.declared.draft.Draft.{Draft}
 use Rattle.lv_syntax.specs.declared.draft.Role.{Role}
-use Rattle.lv_syntax.specs.declared.fault.Kind.TheVariants.{TooMany, FreeName}
-use Rattle.lv_syntax.specs.declared.fault.SyntaxFault.{SyntaxFault}
+use Rattle.lv_reading.specs.declared.fault.Kind.TheVariants.{TooMany, FreeName}
+use Rattle.lv_reading.specs.declared.fault.SyntaxFault.{SyntaxFault}
 use Rattle.lv_syntax.specs.Formulas.{temporal_in}
-use Rattle.lv_syntax.specs.Given.{◌>>=◌, fail, fail_if}
+use Rattle.lv_reading.specs.Given.{◌>>=◌, fail, fail_if}
 
 -- a tree's word, if it is one, and the places of the lists in it that begin with a temporal operator, an outer one before
 -- those inside it

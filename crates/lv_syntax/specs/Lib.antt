@@ -1,6 +1,5 @@
 pub mod Behind
 pub mod Formulas
-pub mod Given
 pub mod Items
 pub mod Labelling
 pub mod Names

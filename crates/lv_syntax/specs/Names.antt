@@ -21,12 +21,12 @@ use Rattle.lv_syntax.specs.declared.draft.Role.TheVariants as R
 use Rattle.lv_syntax.specs.declared.draft.Sorts.{Sorts}
 use Rattle.lv_syntax.specs.declared.draft.Sorts.TheVariants as Args
 use Rattle.lv_syntax.specs.declared.draft.Spoken as declared_spoken
-use Rattle.lv_syntax.specs.declared.fault.Kind.TheVariants.{Unexpected, UnknownName, TwiceNamed, NotFixed, MonitorWord, TooMany}
-use Rattle.lv_syntax.specs.declared.fault.SyntaxFault.{SyntaxFault}
+use Rattle.lv_reading.specs.declared.fault.Kind.TheVariants.{Unexpected, UnknownName, TwiceNamed, NotFixed, MonitorWord, TooMany}
+use Rattle.lv_reading.specs.declared.fault.SyntaxFault.{SyntaxFault}
 use Rattle.lv_syntax.specs.declared.words.Family.{Family}
 use Rattle.lv_syntax.specs.declared.words.Family.TheVariants as Fam
 use Rattle.lv_syntax.specs.Words.{family_of, behind, or_else}
-use Rattle.lv_syntax.specs.Given.{◌>>=◌, fail, fail_if, word_in}
+use Rattle.lv_reading.specs.Given.{◌>>=◌, fail, fail_if, word_in}
 
 -- ---- names
 

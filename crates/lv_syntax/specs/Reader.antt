@@ -3,8 +3,8 @@ use Rattle.std.specs.Prelude.{◌≡◌, ◌↔◌, ℕ, List, Result, Ok, Err}
 use Rattle.lv_tree.specs.declared.tree.Tree.{Tree}
 use Rattle.lv_system.specs.declared.parts.Parts.{Parts}
 use Rattle.lv_grammar.specs.Spelling.{SpellsSystem, Spells}
-use Rattle.lv_syntax.specs.declared.fault.ReadText.{ReadText}
-use Rattle.lv_syntax.specs.declared.fault.ReadText.TheVariants.{Refused, Memory}
+use Rattle.lv_reading.specs.declared.fault.ReadText.{ReadText}
+use Rattle.lv_reading.specs.declared.fault.ReadText.TheVariants.{Refused, Memory}
 use Rattle.lv_syntax.specs.Items.{system_of}
 
 -- the answer is this system, unless memory ran out

@@ -1,16 +1,16 @@
 //! Atoms and equations, read from trees in the scope of variables.
 ghost use Rattle.std.specs.Prelude.{◌≡◌};
-ghost use Rattle.lv_syntax.specs.Given.{Gives};
+ghost use Rattle.lv_reading.specs.Given.{Gives};
 ghost use Rattle.lv_syntax.specs.Scopes.{scope_seen};
-ghost use Rattle.lv_syntax.specs.Seen.{spelled_seen};
+ghost use Rattle.lv_reading.specs.Seen.{spelled_seen};
 ghost use Rattle.lv_syntax.specs.Formulas.{bare_atom, fail_arity, listed_atom, equation_in};
 
-use crate::fault::{Kind, ReadText};
 use crate::scope::Scope;
 use crate::symbols::{Setting, relation};
 use crate::terms::{term, term_in_sort, terms};
-use crate::trees::{Spelled, finish, next, refusal, refuse_if};
 use lv_formula::{SortId, Temporal, Terms};
+use lv_reading::trees::{Spelled, finish, next, refusal, refuse_if};
+use lv_reading::{Kind, ReadText};
 use lv_tree::Tree;
 use std::alloc::Global;
 

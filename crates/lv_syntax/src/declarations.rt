@@ -1,21 +1,21 @@
 //! Items without updates or temporal formulas: sorts, relations, constants, fairness conditions, invariants.
 ghost use Rattle.std.specs.Prelude.{◌≡◌, [], codes};
 ghost use Rattle.lv_syntax.specs.declared.draft.Role.TheVariants as R;
-ghost use Rattle.lv_syntax.specs.Given.{Gives};
-ghost use Rattle.lv_syntax.specs.Seen.{headed_seen};
+ghost use Rattle.lv_reading.specs.Given.{Gives};
+ghost use Rattle.lv_reading.specs.Seen.{headed_seen};
 ghost use Rattle.lv_syntax.specs.Parameters.{params_seen};
 ghost use Rattle.lv_syntax.specs.Formulas.{lone_formula};
 ghost use Rattle.lv_syntax.specs.Items.{sort_item, relation_item, constant_item, fair_item, invariant_item, scope_of};
 
 use crate::draft::{Draft, Role};
-use crate::fault::ReadText;
 use crate::names::sort;
 use crate::parameters::{is_marked, name, open, sorts, sorts_of_parameters, text_of};
 use crate::scope::{Parameter, Scope};
 use crate::states::lone;
 use crate::symbols::Setting;
-use crate::trees::{HeadedList, next};
 use lv_formula::Formula;
+use lv_reading::ReadText;
+use lv_reading::trees::{HeadedList, next};
 use lv_system::{Fair, Invariant, Shape, Sort, Symbol};
 use lv_tree::Tree;
 use std::alloc::Global;

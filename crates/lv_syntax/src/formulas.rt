@@ -1,20 +1,20 @@
 //! Formulas, read from trees in the scope of variables.
 ghost use Rattle.std.specs.Prelude.{◌≡◌, Some};
 ghost use Rattle.lv_syntax.specs.declared.words.Keyword.TheVariants as K;
-ghost use Rattle.lv_syntax.specs.Given.{Gives};
+ghost use Rattle.lv_reading.specs.Given.{Gives};
 ghost use Rattle.lv_syntax.specs.Scopes.{scope_seen};
-ghost use Rattle.lv_syntax.specs.Seen.{headed_seen};
+ghost use Rattle.lv_reading.specs.Seen.{headed_seen};
 ghost use Rattle.lv_syntax.specs.Words.{keyword_of};
 ghost use Rattle.lv_syntax.specs.Formulas.{each, one_part, two_parts, bound_part, list_by, word_formula, formula_of, temporal_in, formula_in, lone_formula};
 
 use crate::atoms::{atom, bare, equation};
-use crate::fault::{Kind, ReadText};
 use crate::names::{new_variable, sort};
 use crate::scope::Scope;
 use crate::symbols::Setting;
-use crate::trees::{HeadedList, finish, list_headed, next, place, refusal, refuse_if};
 use crate::words::{Keyword, keyword_in};
 use lv_formula::{List, Rc, SortId, Temporal};
+use lv_reading::trees::{HeadedList, finish, list_headed, next, place, refusal, refuse_if};
+use lv_reading::{Kind, ReadText};
 use lv_tree::Tree;
 use std::alloc::Global;
 

@@ -1,7 +1,7 @@
 ghost use Rattle.std.specs.Prelude.{◌≡◌, ◌++◌, ◌∷◌, ◌<◌, ◌^◌, [], OnOk, IfErr, length};
 
-use crate::fault::ReadText;
 use lv_formula::List;
+use lv_reading::ReadText;
 use std::alloc::Global;
 use std::marker::Model;
 

@@ -1,18 +1,18 @@
 //! The items of a system, read from trees in their order.
 ghost use Rattle.std.specs.Prelude.{◌≡◌};
 ghost use Rattle.lv_syntax.specs.declared.items.ItemKind.TheVariants as I;
-ghost use Rattle.lv_syntax.specs.Given.{Gives};
-ghost use Rattle.lv_syntax.specs.Seen.{headed_seen};
+ghost use Rattle.lv_reading.specs.Given.{Gives};
+ghost use Rattle.lv_reading.specs.Seen.{headed_seen};
 ghost use Rattle.lv_syntax.specs.Items.{first_kinds, last_kinds, kind_of, kind_at, rank_of, lacks_property, is_full, in_order, with_item, step, items_of};
 
 use crate::declarations::{
     lone_closed, read_constant, read_fair, read_invariant, read_relation, read_sort,
 };
 use crate::draft::{Draft, Role};
-use crate::fault::{Kind, ReadText};
 use crate::labelled::{read_label, read_property, read_witness};
-use crate::trees::{HeadedList, head, refusal, refuse_if};
 use crate::updates::read_action;
+use lv_reading::trees::{HeadedList, head, refusal, refuse_if};
+use lv_reading::{Kind, ReadText};
 use lv_system::same_bytes;
 use lv_tree::Tree;
 use std::alloc::Global;

@@ -1,21 +1,21 @@
 //! Items with temporal formulas: labels, witnesses, the property.
 ghost use Rattle.std.specs.Prelude.{◌≡◌, codes, eqb};
 ghost use Rattle.lv_labels.specs.Once.{is_among};
-ghost use Rattle.lv_syntax.specs.Given.{Gives};
-ghost use Rattle.lv_syntax.specs.Seen.{headed_seen};
+ghost use Rattle.lv_reading.specs.Given.{Gives};
+ghost use Rattle.lv_reading.specs.Seen.{headed_seen};
 ghost use Rattle.lv_syntax.specs.Parameters.{params_seen, param_seen, opening_seen, labelled_seen};
 ghost use Rattle.lv_syntax.specs.Items.{always_in, label_checked, label_item, place_of_first, one_pair, witness_item, property_item, scope_of};
 
 use crate::draft::{Draft, Role};
-use crate::fault::{Kind, ReadText};
 use crate::growing::Growing;
 use crate::labelling::{check_free, keys_over, own, read_path};
 use crate::names::{new_variable, sort};
 use crate::parameters::{Opening, name, open, sorts_of_parameters, text_of};
 use crate::scope::{Parameter, Scope};
-use crate::trees::{HeadedList, finish, head, list, next, place, refuse_if};
 use lv_formula::Temporal;
 use lv_labels::{Key, free_variables};
+use lv_reading::trees::{HeadedList, finish, head, list, next, place, refuse_if};
+use lv_reading::{Kind, ReadText};
 use lv_system::{LabelDecl, WitnessDecl, same_bytes};
 use lv_tree::Tree;
 use std::alloc::Global;

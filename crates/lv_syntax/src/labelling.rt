@@ -2,7 +2,7 @@
 ghost use Rattle.std.specs.Prelude.{◌≡◌, ◌≤◌, ◌++◌, ◌∷◌, length, [], IfOk, IfErr, OnOk, codes, map, reverse};
 ghost use Rattle.lv_labels.specs.Once.{is_among, once_behind, place_of};
 ghost use Rattle.lv_labels.specs.Labels.{key_eq, keys_of, number_of};
-ghost use Rattle.lv_syntax.specs.Given.{Gives};
+ghost use Rattle.lv_reading.specs.Given.{Gives};
 ghost use Rattle.lv_syntax.specs.Parameters.{params_seen};
 ghost use Rattle.lv_syntax.specs.Labelling.{marked, is_operator_word, begins_operator, operator_places, operator_places_all, add_labels, path_in, own_number, free_name};
 ghost use Rattle.lv_syntax.specs.Formulas.{temporal_in};
@@ -10,15 +10,15 @@ ghost use Rattle.lv_syntax.specs.Items.{scope_of, sorts_of, places_of};
 
 use crate::declarations::ROOM;
 use crate::draft::{Draft, Role};
-use crate::fault::{Kind, ReadText};
 use crate::formulas::read_temporal;
 use crate::growing::Growing;
 use crate::parameters::sorts_of_parameters;
 use crate::scope::{Parameter, Scope};
 use crate::symbols::Setting;
-use crate::trees::{refusal, refuse_if};
 use lv_formula::{List, Memory, Scope as Context, Temporal};
 use lv_labels::Key;
+use lv_reading::trees::{refusal, refuse_if};
+use lv_reading::{Kind, ReadText};
 use lv_system::same_bytes;
 use lv_tree::Tree;
 use std::alloc::Global;

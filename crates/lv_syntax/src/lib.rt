@@ -4,7 +4,6 @@
 mod atoms;
 mod declarations;
 mod draft;
-mod fault;
 mod formulas;
 mod growing;
 mod items;
@@ -19,9 +18,8 @@ mod states;
 mod symbols;
 mod system;
 mod terms;
-mod trees;
 mod updates;
 mod words;
 
-pub use fault::{Kind, ReadText, SyntaxFault};
+pub use lv_reading::{Kind, ReadText, SyntaxFault, read_structure};
 pub use reader::read_system;

@@ -1,15 +1,15 @@
 //! What names name, and new names and variables.
 ghost use Rattle.std.specs.Prelude.{◌≡◌, ◌<◌, ◌^◌, length, IfSome};
-ghost use Rattle.lv_syntax.specs.Given.{Gives};
+ghost use Rattle.lv_reading.specs.Given.{Gives};
 ghost use Rattle.lv_syntax.specs.Names.{position_of, named, new_name, new_variable, sort_in};
 ghost use Rattle.lv_syntax.specs.Scopes.{scope_seen};
 
 use crate::draft::{Draft, Named};
-use crate::fault::{Kind, ReadText};
 use crate::scope::Scope;
-use crate::trees::{refusal, refuse_if, word};
 use crate::words::{Family, family_in};
 use lv_formula::SortId;
+use lv_reading::trees::{refusal, refuse_if, word};
+use lv_reading::{Kind, ReadText};
 use lv_system::{HasName, same_bytes};
 use lv_tree::Tree;
 

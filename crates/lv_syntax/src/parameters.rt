@@ -1,17 +1,17 @@
 //! What items have in common: names, marks, lists of sorts and of parameters.
 ghost use Rattle.std.specs.Prelude.{◌≡◌, ◌++◌, ◌∷◌, [], IfOk, IfErr};
-ghost use Rattle.lv_syntax.specs.Given.{Gives};
+ghost use Rattle.lv_reading.specs.Given.{Gives};
 ghost use Rattle.lv_syntax.specs.Items.{mark_in, sorts_in, parameters_in, sorts_of, places_of, name_in, opened_in};
 ghost use Rattle.lv_syntax.specs.Behind.{sorts_behind, parameter_in, pairs_behind};
 ghost use Rattle.lv_syntax.specs.Parameters.{params_seen, opening_seen};
 
 use crate::draft::Draft;
-use crate::fault::{Kind, ReadText};
 use crate::growing::Growing;
 use crate::names::{new_name, new_variable, sort};
 use crate::scope::{Parameter, Scope};
-use crate::trees::{finish, list, next, place, refusal, refuse_if, word};
 use lv_formula::{List, SortId, Text};
+use lv_reading::trees::{finish, list, next, place, refusal, refuse_if, word};
+use lv_reading::{Kind, ReadText};
 use lv_system::same_bytes;
 use lv_tree::Tree;
 use std::alloc::Global;

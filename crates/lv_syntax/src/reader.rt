@@ -2,12 +2,12 @@
 ghost use Rattle.std.specs.Prelude.{IfOk, IfErr};
 ghost use Rattle.lv_system.specs.declared.parts.Parts.{Parts};
 ghost use Rattle.lv_grammar.specs.Spelling.{SpellsSystem};
-ghost use Rattle.lv_syntax.specs.Given.{Fails};
+ghost use Rattle.lv_reading.specs.Given.{Fails};
 ghost use Rattle.lv_syntax.specs.Items.{system_of};
 ghost use Rattle.lv_syntax.specs.Reader.{IsSystemOrMemory};
 
-use crate::fault::ReadText;
 use crate::system::read_parts;
+use lv_reading::ReadText;
 use lv_system::System;
 use lv_tree::Tree;
 use std::alloc::Global;

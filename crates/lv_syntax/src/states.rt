@@ -1,15 +1,15 @@
 //! Formulas of one state, read from trees.
 ghost use Rattle.std.specs.Prelude.{◌≡◌, IfOk};
-ghost use Rattle.lv_syntax.specs.Given.{Gives};
+ghost use Rattle.lv_reading.specs.Given.{Gives};
 ghost use Rattle.lv_syntax.specs.Scopes.{scope_seen};
 ghost use Rattle.lv_syntax.specs.Formulas.{state_formula, state_formulas, formula_in, lone_formula};
 
-use crate::fault::ReadText;
 use crate::formulas::read_temporal;
 use crate::scope::Scope;
 use crate::symbols::Setting;
-use crate::trees::{finish, next};
 use lv_formula::{Formula, List, Memory, Rc, Temporal, Terms};
+use lv_reading::ReadText;
+use lv_reading::trees::{finish, next};
 use lv_tree::Tree;
 use std::alloc::Global;
 

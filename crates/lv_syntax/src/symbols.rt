@@ -1,17 +1,17 @@
 //! What words say where a symbol may stand, and which words may stand where.
 ghost use Rattle.std.specs.Prelude.{◌≡◌, ◌<◌, ◌^◌, Option, IfSome, slice_get};
 ghost use Rattle.lv_formula.specs.declared.symbols.Sym.TheVariants as Y;
-ghost use Rattle.lv_syntax.specs.Given.{Gives};
+ghost use Rattle.lv_reading.specs.Given.{Gives};
 ghost use Rattle.lv_syntax.specs.declared.words.Family.TheVariants as Fam;
 ghost use Rattle.lv_syntax.specs.Names.{named, said_by, mark_said, is_fixed_symbol, label_seen, said_seen, said_seen_in, with_shape, symbol_said, witness_said, fair_said, label_found, name_said, set_said, due_said, changing_said, copy_said, dotted_said, is_invariant, has_witnesses, is_temporal, said, permitted, relation_at, constant_at};
 ghost use Rattle.lv_syntax.specs.Seen.{predicate_seen};
 
 use crate::draft::{Draft, Named, Role, Sorts, Spoken};
-use crate::fault::{Kind, ReadText};
 use crate::names::named;
-use crate::trees::{refusal, refuse_if};
 use crate::words::{Family, family_in, rest_behind};
 use lv_formula::{SortId, Sym};
+use lv_reading::trees::{refusal, refuse_if};
+use lv_reading::{Kind, ReadText};
 use lv_system::Shape;
 
 /// What a formula is read over: what was read before it, and where it stands.

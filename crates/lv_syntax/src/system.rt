@@ -1,16 +1,16 @@
 //! Systems, read from trees.
 ghost use Rattle.std.specs.Prelude.{◌≡◌, codes};
-ghost use Rattle.lv_syntax.specs.Given.{Gives};
+ghost use Rattle.lv_reading.specs.Given.{Gives};
 ghost use Rattle.lv_syntax.specs.Items.{no_items, parts_with, system_name, system_of};
 
 use crate::draft::Draft;
-use crate::fault::{Kind, ReadText};
 use crate::growing::Growing;
 use crate::items::read_items;
 use crate::parameters::text_of;
-use crate::trees::{head, next, refusal, refuse_if, word};
 use crate::words::{Family, family_in};
 use lv_formula::Text;
+use lv_reading::trees::{head, next, refusal, refuse_if, word};
+use lv_reading::{Kind, ReadText};
 use lv_system::{Parts, same_bytes};
 use lv_tree::Tree;
 use std::alloc::Global;

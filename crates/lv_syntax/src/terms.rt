@@ -1,18 +1,18 @@
 //! Terms, read from trees in the scope of variables.
 ghost use Rattle.std.specs.Prelude.{◌≡◌, ◌++◌, []};
 ghost use Rattle.lv_grammar.specs.Words.{variable_number};
-ghost use Rattle.lv_syntax.specs.Given.{Gives};
+ghost use Rattle.lv_reading.specs.Given.{Gives};
 ghost use Rattle.lv_syntax.specs.Scopes.{scope_seen};
 ghost use Rattle.lv_syntax.specs.Formulas.{variable_term, constant_term, term_in, term_of_sort, terms_in};
 ghost use Rattle.lv_syntax.specs.Behind.{terms_behind};
 
-use crate::fault::{Kind, ReadText};
 use crate::growing::Growing;
 use crate::scope::Scope;
 use crate::symbols::{Setting, constant};
-use crate::trees::{place, refusal, refuse_if, word};
 use crate::words::{Family, family_in};
 use lv_formula::{SortId, Term};
+use lv_reading::trees::{place, refusal, refuse_if, word};
+use lv_reading::{Kind, ReadText};
 use lv_tree::Tree;
 use std::alloc::Global;
 

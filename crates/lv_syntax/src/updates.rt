@@ -1,16 +1,15 @@
 //! Actions, with their guards and updates.
 ghost use Rattle.std.specs.Prelude.{◌≡◌, ◌++◌, [], codes, reverse, slice_get};
 ghost use Rattle.lv_system.specs.Fits.{is_target};
-ghost use Rattle.lv_syntax.specs.Given.{Gives};
+ghost use Rattle.lv_reading.specs.Given.{Gives};
 ghost use Rattle.lv_syntax.specs.Scopes.{scope_seen, variables_seen};
-ghost use Rattle.lv_syntax.specs.Seen.{headed_seen};
+ghost use Rattle.lv_reading.specs.Seen.{headed_seen};
 ghost use Rattle.lv_syntax.specs.Parameters.{params_seen, target_seen};
 ghost use Rattle.lv_syntax.specs.Behind.{arguments_behind};
 ghost use Rattle.lv_syntax.specs.Items.{guard_in, target_symbol, target_in, arguments_in, relation_update, constant_update, update_in, updates_in, action_item, scope_of};
 
 use crate::declarations::lone_over;
 use crate::draft::{Draft, Named, Role};
-use crate::fault::{Kind, ReadText};
 use crate::growing::Growing;
 use crate::names::{named, new_variable};
 use crate::parameters::{open, sorts_of_parameters, text_of};
@@ -18,9 +17,10 @@ use crate::scope::{Parameter, Scope};
 use crate::states::lone;
 use crate::symbols::Setting;
 use crate::terms::term_in_sort;
-use crate::trees::{HeadedList, finish, head, list, next, place, refusal, refuse_if, word};
 use crate::words::{Family, family_in};
 use lv_formula::{Formula, List, SortId};
+use lv_reading::trees::{HeadedList, finish, head, list, next, place, refusal, refuse_if, word};
+use lv_reading::{Kind, ReadText};
 use lv_system::{Action, ActionUpdate, Shape, same_bytes};
 use lv_tree::Tree;
 use std::alloc::Global;

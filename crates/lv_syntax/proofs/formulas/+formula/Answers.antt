@@ -1,7 +1,7 @@
 use Rattle.std.proofs.Common.{arith}
 use Rattle.std.proofs.lemmas.Result.{err_from_is_err_and}
 use Rattle.lv_syntax.specs.Scopes.{scope_seen}
-use Rattle.lv_syntax.specs.Seen.{headed_seen}
+use Rattle.lv_reading.specs.Seen.{headed_seen}
 use Rattle.lv_syntax.specs.Formulas.{formula_of}
 use Rattle.lv_syntax.proofs.Fronts.{goes_on, stops, is_done}
 use Rattle.lv_syntax.proofs.Rooms.{each_split, each_end, room_past, room_word, room_headed, room_headless}

@@ -4,9 +4,9 @@ use Rattle.lv_tree.specs.declared.tree.Tree.{Tree, Tree-F, out-Tree}
 use Rattle.lv_tree.specs.declared.tree.Tree.TheOpen.{Word, Group}
 use Rattle.lv_grammar.specs.Trees as Trees
 use Rattle.lv_grammar.specs.Grammar.{IsWord, IsList}
-use Rattle.lv_syntax.specs.declared.fault.Kind.{Kind}
-use Rattle.lv_syntax.specs.declared.fault.SyntaxFault.{SyntaxFault}
-use Rattle.lv_syntax.specs.Given.{◌>>=◌, fail_if, next_of, ended, Worded, word_layer, word_in, Listed, list_layer, list_in, Headed, headed_items, headed_layer, headed}
+use Rattle.lv_reading.specs.declared.fault.Kind.{Kind}
+use Rattle.lv_reading.specs.declared.fault.SyntaxFault.{SyntaxFault}
+use Rattle.lv_reading.specs.Given.{◌>>=◌, fail_if, next_of, ended, Worded, word_layer, word_in, Listed, list_layer, list_in, Headed, headed_items, headed_layer, headed}
 
 abbrev pub done : {A : Type 0} → A → Result A SyntaxFault
 done x = Ok x

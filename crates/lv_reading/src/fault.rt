@@ -1,6 +1,6 @@
-//! Why a tree spells no system.
+//! Why a tree spells nothing that is asked for.
 ghost use Rattle.std.specs.Prelude.{◌≡◌};
-ghost use Rattle.lv_syntax.specs.declared.fault.ReadText.TheVariants as R;
+ghost use Rattle.lv_reading.specs.declared.fault.ReadText.TheVariants as R;
 
 use lv_formula::Memory;
 use std::alloc::{AllocError, AllocFailed};
@@ -35,7 +35,7 @@ pub enum Kind {
     FreeName,
 }
 
-/// The first fault of a tree that spells no system.
+/// The first fault of a tree that does not spell what is asked for.
 #[derive(Clone, Copy, Debug, PartialEq, Eq, Error)]
 #[error("the text has a fault")]
 pub struct SyntaxFault {

@@ -1,7 +1,7 @@
-//! The words of symbols and sorts.
+//! The words of symbols and sorts, found in the parts of a system and its table of labels.
 ghost use Rattle.std.specs.Prelude.{◌≡◌, ◌++◌, ℕ, List, [], map, get_or, codes, decimal, IfOk};
 ghost use Rattle.lv_grammar.specs.Words.{name_or_number, sort_name, own_name, symbol_word, label_word, justice_name};
-ghost use Rattle.lv_show.specs.Tables.{IsTable, named_by, declaration_in};
+ghost use Rattle.lv_grammar.specs.Tables.{IsTable, named_by, declaration_in};
 
 use itoa::Buffer;
 use lv_formula::{Memory, SortId, Sym};
@@ -10,11 +10,12 @@ use lv_system::{HasName, LabelDecl, Parts};
 use lv_tree::{List, Text};
 use std::alloc::Global;
 
-/// What words are looked up in: the parts of a system, and its table of labels.
+/// What words are looked up in: the parts of a system, and its table of labels. The caller sees to it that the table is
+/// that of the system.
 #[derive(Clone, Copy, Drop)]
-pub(crate) struct Words<'a> {
-    pub(crate) parts: &'a Parts,
-    pub(crate) labels: &'a [Label],
+pub struct Words<'a> {
+    pub parts: &'a Parts,
+    pub labels: &'a [Label],
 }
 
 /// The name of the item with the number, no bytes where there is none.
@@ -30,15 +31,15 @@ fn name_at<T: HasName>(items: &[T], number: u32) -> &[u8]
     }
 }
 
-/// The name of the sort.
-pub(crate) fn sort_name(sort: SortId, parts: &Parts) -> &[u8]
+/// The name of the sort, no bytes where there is none.
+pub fn sort_name(sort: SortId, parts: &Parts) -> &[u8]
     ensures { result.now ≡ sort_name parts.now sort }
 {
     name_at(parts.sorts.as_slice(), sort.0)
 }
 
-/// The name of the system's symbol with the number.
-pub(crate) fn own_name(number: u32, parts: &Parts) -> &[u8]
+/// The name of the system's symbol with the number, no bytes where there is none.
+pub fn own_name(number: u32, parts: &Parts) -> &[u8]
     ensures { result.now ≡ own_name parts.now number }
 {
     name_at(parts.symbols.as_slice(), number)
@@ -138,8 +139,8 @@ fn behind_label(alloc: Global, front: &[u8], label: u32, words: &Words) -> Resul
     joined(alloc, front, word.as_slice())
 }
 
-/// The word of the symbol. The error is want of memory.
-pub(crate) fn symbol_word(alloc: Global, sym: Sym, words: &Words) -> Result<Text, Memory>
+/// The word of the symbol. A label without a declared name is `label.` and its number. The only error is want of memory.
+pub fn symbol_word(alloc: Global, sym: Sym, words: &Words) -> Result<Text, Memory>
     requires { IsTable words.now.parts.now words.now.labels.now }
     ensures { IfOk result (λ t. t ≡ symbol_word words.now.parts.now sym) }
 {

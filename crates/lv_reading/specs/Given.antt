@@ -2,11 +2,11 @@
 use Rattle.std.specs.Prelude.{◌≡◌, ℕ, Bool, List, [], ◌∷◌, Result, Ok, Err, if◌then◌else◌}
 use Rattle.lv_tree.specs.declared.tree.Tree.{Tree, out-Tree}
 use Rattle.lv_tree.specs.declared.tree.Tree.TheOpen.{Tree-F, Word, Group}
-use Rattle.lv_syntax.specs.declared.fault.Kind.{Kind}
-use Rattle.lv_syntax.specs.declared.fault.Kind.TheVariants.{Unexpected, Missing}
-use Rattle.lv_syntax.specs.declared.fault.SyntaxFault.{SyntaxFault}
-use Rattle.lv_syntax.specs.declared.fault.ReadText.{ReadText}
-use Rattle.lv_syntax.specs.declared.fault.ReadText.TheVariants.{Refused, Memory}
+use Rattle.lv_reading.specs.declared.fault.Kind.{Kind}
+use Rattle.lv_reading.specs.declared.fault.Kind.TheVariants.{Unexpected, Missing}
+use Rattle.lv_reading.specs.declared.fault.SyntaxFault.{SyntaxFault}
+use Rattle.lv_reading.specs.declared.fault.ReadText.{ReadText}
+use Rattle.lv_reading.specs.declared.fault.ReadText.TheVariants.{Refused, Memory}
 
 infixl 10 ◌>>=◌
 abbrev pub ◌>>=◌ : {A B : Type 0} → Result A SyntaxFault → (A → Result B SyntaxFault) → Result B SyntaxFault

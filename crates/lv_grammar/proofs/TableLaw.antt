@@ -22,7 +22,7 @@ use Rattle.lv_labels.proofs.Once.{Decides}
 use Rattle.lv_labels.proofs.Sameness.{key_decides}
 use Rattle.lv_labels.proofs.Table.{IsIn, each_in}
 use Rattle.lv_grammar.specs.Words.{declared_name, label_name, name_or_number, label_word}
-use Rattle.lv_show.specs.Tables.{IsTable, named_by, row_declaration, declaration_in}
+use Rattle.lv_grammar.specs.Tables.{IsTable, named_by, row_declaration, declaration_in}
 
 -- ---- each item of a list in which each counts once stands at its place
 

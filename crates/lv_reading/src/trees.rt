@@ -1,44 +1,44 @@
 //! The words and lists of a tree, each with its place.
 ghost use Rattle.std.specs.Prelude.{◌≡◌};
-ghost use Rattle.lv_syntax.specs.declared.fault.ReadText.TheVariants as R;
-ghost use Rattle.lv_syntax.specs.Given.{Gives, fail_if, place_of, next_of, ended, word_in, list_in, headed, headed_items};
-ghost use Rattle.lv_syntax.specs.Seen.{spelled_seen, inside_seen, headed_seen};
+ghost use Rattle.lv_reading.specs.declared.fault.ReadText.TheVariants as R;
+ghost use Rattle.lv_reading.specs.Given.{Gives, fail_if, place_of, next_of, ended, word_in, list_in, headed, headed_items};
+ghost use Rattle.lv_reading.specs.Seen.{spelled_seen, inside_seen, headed_seen};
 
 use crate::fault::{Kind, ReadText, SyntaxFault};
 use lv_tree::Tree;
 
 /// A word with its place.
 #[derive(Clone, Copy, Debug, Drop)]
-pub(crate) struct Spelled<'a> {
-    pub(crate) at: u32,
-    pub(crate) text: &'a [u8],
+pub struct Spelled<'a> {
+    pub at: u32,
+    pub text: &'a [u8],
 }
 
 /// What stands in a list, with the place of its closing bracket.
 #[derive(Clone, Copy, Debug, Drop)]
-pub(crate) struct Inside<'a> {
-    pub(crate) end: u32,
-    pub(crate) items: &'a [Tree],
+pub struct Inside<'a> {
+    pub end: u32,
+    pub items: &'a [Tree],
 }
 
 /// A list that begins with a word: its first and last place, the word, and the items behind it.
 #[derive(Clone, Copy, Debug, Drop)]
-pub(crate) struct HeadedList<'a> {
-    pub(crate) at: u32,
-    pub(crate) end: u32,
-    pub(crate) word: Spelled<'a>,
-    pub(crate) rest: &'a [Tree],
+pub struct HeadedList<'a> {
+    pub at: u32,
+    pub end: u32,
+    pub word: Spelled<'a>,
+    pub rest: &'a [Tree],
 }
 
 /// The refusal with this fault.
-pub(crate) fn refusal(kind: Kind, at: u32) -> ReadText
+pub fn refusal(kind: Kind, at: u32) -> ReadText
     ensures { result ≡ R.Refused (record { at = at; kind = kind }) }
 {
     ReadText::Refused(SyntaxFault { at, kind })
 }
 
 /// The fault, where it is one.
-pub(crate) fn refuse_if(wrong: bool, kind: Kind, at: u32) -> Result<(), ReadText>
+pub fn refuse_if(wrong: bool, kind: Kind, at: u32) -> Result<(), ReadText>
     ensures { Gives (λ x. x) result (fail_if wrong kind at) }
 {
     if wrong {
@@ -49,7 +49,7 @@ pub(crate) fn refuse_if(wrong: bool, kind: Kind, at: u32) -> Result<(), ReadText
 }
 
 /// The place of the tree's first byte.
-pub(crate) fn place(tree: &Tree) -> u32
+pub fn place(tree: &Tree) -> u32
     ensures { result ≡ place_of tree.now }
 {
     match tree {
@@ -63,7 +63,7 @@ pub(crate) fn place(tree: &Tree) -> u32
 }
 
 /// The first item, and those behind it, of a list that ends at this place.
-pub(crate) fn next(end: u32, items: &[Tree]) -> Result<(&Tree, &[Tree]), ReadText>
+pub fn next(end: u32, items: &[Tree]) -> Result<(&Tree, &[Tree]), ReadText>
     ensures { Gives (λ x. (x.0.now, x.1.now)) result (next_of end items.now) }
 {
     match items {
@@ -73,7 +73,7 @@ pub(crate) fn next(end: u32, items: &[Tree]) -> Result<(&Tree, &[Tree]), ReadTex
 }
 
 /// That no item is left.
-pub(crate) fn finish(items: &[Tree]) -> Result<(), ReadText>
+pub fn finish(items: &[Tree]) -> Result<(), ReadText>
     ensures { Gives (λ x. x) result (ended items.now) }
 {
     match items {
@@ -83,7 +83,7 @@ pub(crate) fn finish(items: &[Tree]) -> Result<(), ReadText>
 }
 
 /// A word, where one has to stand.
-pub(crate) fn word(tree: &Tree) -> Result<Spelled<'_>, ReadText>
+pub fn word(tree: &Tree) -> Result<Spelled<'_>, ReadText>
     ensures { Gives spelled_seen result (word_in tree.now) }
 {
     match tree {
@@ -100,7 +100,7 @@ pub(crate) fn word(tree: &Tree) -> Result<Spelled<'_>, ReadText>
 }
 
 /// A list, where one has to stand.
-pub(crate) fn list(tree: &Tree) -> Result<Inside<'_>, ReadText>
+pub fn list(tree: &Tree) -> Result<Inside<'_>, ReadText>
     ensures { Gives inside_seen result (list_in tree.now) }
 {
     match tree {
@@ -114,7 +114,7 @@ pub(crate) fn list(tree: &Tree) -> Result<Inside<'_>, ReadText>
 
 /// The list with these items, which has to begin with a word.
 #[tactic(auto, unfolding(crate::specs::Given::headed_items))]
-pub(crate) fn list_headed(at: u32, end: u32, items: &[Tree]) -> Result<HeadedList<'_>, ReadText>
+pub fn list_headed(at: u32, end: u32, items: &[Tree]) -> Result<HeadedList<'_>, ReadText>
     ensures { Gives headed_seen result (headed_items at end items.now) }
 {
     let (first, rest) = next(end, items)?;
@@ -128,7 +128,7 @@ pub(crate) fn list_headed(at: u32, end: u32, items: &[Tree]) -> Result<HeadedLis
 }
 
 /// A list that begins with a word, where one has to stand.
-pub(crate) fn head(tree: &Tree) -> Result<HeadedList<'_>, ReadText>
+pub fn head(tree: &Tree) -> Result<HeadedList<'_>, ReadText>
     ensures { Gives headed_seen result (headed tree.now) }
 {
     match tree {
