@@ -1,0 +1,6 @@
+pub mod AnswerLaws
+pub mod Conclusions
+pub mod DueLemmas
+pub mod Params
+pub mod Performed
+pub mod Symbols

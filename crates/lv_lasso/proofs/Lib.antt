@@ -1,0 +1,3 @@
+pub mod LassoText
+pub mod OwnWords
+pub mod StepsFound
