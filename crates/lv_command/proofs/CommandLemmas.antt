@@ -120,19 +120,25 @@ leaf name = record (new_shape name) {
   is_built = true;
 }
 
-abbrev found : Bool → Bool → Option Shape
-found proves shows = if proves then Some prove_leaf else (if shows then Some (leaf (codes "show")) else None)
+abbrev found : Bool → Bool → Bool → Bool → Option Shape
+found proves shows checks replays =
+    if proves then Some prove_leaf
+    else (if shows then Some (leaf (codes "show"))
+    else (if checks then Some (leaf (codes "check"))
+    else (if replays then Some (leaf (codes "replay")) else None)))
 
-found_step : (proves shows : Bool) (words : List Text)
-    → option_map_or (λ s. level_fault s [] nothing_held words false []) (found proves shows) [] ≡ []
-    → option_map_or (λ s. level_passes s [] nothing_held words false) (found proves shows) true ≡ true
-found_step true shows words e = prove_level words e
-found_step false true words e = (level_step (leaf (codes "show")) [] nothing_held words false [] e).0
-found_step false false words e = refl
+found_step : (proves shows checks replays : Bool) (words : List Text)
+    → option_map_or (λ s. level_fault s [] nothing_held words false []) (found proves shows checks replays) [] ≡ []
+    → option_map_or (λ s. level_passes s [] nothing_held words false) (found proves shows checks replays) true ≡ true
+found_step true shows checks replays words e = prove_level words e
+found_step false true checks replays words e = (level_step (leaf (codes "show")) [] nothing_held words false [] e).0
+found_step false false true replays words e = (level_step (leaf (codes "check")) [] nothing_held words false [] e).0
+found_step false false false true words e = (level_step (leaf (codes "replay")) [] nothing_held words false [] e).0
+found_step false false false false words e = refl
 
 entered_step : (stop : Option (Text × List Text)) → entered_fault (built the_command) stop ≡ [] → entered_passes (built the_command) stop ≡ true
 entered_step None e = refl
-entered_step (Some p) e = found_step (answers_to p.0 (codes "prove", [])) (answers_to p.0 (codes "show", [])) p.1 e
+entered_step (Some p) e = found_step (answers_to p.0 (codes "prove", [])) (answers_to p.0 (codes "show", [])) (answers_to p.0 (codes "check", [])) (answers_to p.0 (codes "replay", [])) p.1 e
 
 simple : is_simple the_command ≡ true
 simple = refl
@@ -179,7 +185,7 @@ mode_at_err a words e is passes other = none_unless (takes the_command words) _ 
 
 pub names_each_mode : NamesEachMode
 unfolding mode_of clap_on_literals
-names_each_mode = (refl, refl, refl, refl, refl, refl, refl)
+names_each_mode = (refl, refl, refl, refl, refl, refl, refl, refl, refl)
 
 -- ---- the budget that was read
 

@@ -12,8 +12,8 @@ use Rattle.clap.specs.declared.parser.matches.ArgMatches.{ArgMatches}
 use Rattle.clap.proofs.OnLiterals.{clap_on_literals}
 use Rattle.clap.proofs.WalkLemmas.{both}
 use Rattle.lv_command.specs.declared.mode.Mode.{Mode}
-use Rattle.lv_command.specs.declared.mode.Mode.TheVariants.{Prove, Show}
-use Rattle.lv_command.specs.Commands.{AsksToProve, AsksToShow, AsksWhereTaken, EndIn, GiveBudget, HasReadBudget, IsInRange, mode_named, mode_of, number_of, the_command}
+use Rattle.lv_command.specs.declared.mode.Mode.TheVariants.{Check, Prove, Replay, Show}
+use Rattle.lv_command.specs.Commands.{AsksByName, AsksToProve, AsksWhereTaken, EndIn, GiveBudget, HasReadBudget, IsInRange, mode_named, mode_of, number_of, the_command}
 use Rattle.lv_command.proofs.BudgetFaults.{and_true, prove_leaf, taken_is_budget, the_rules}
 use Rattle.lv_command.proofs.BudgetForms.{Says, says_budget, says_usual}
 use Rattle.lv_command.proofs.BudgetWords.{Behind, EndDashed, Spell, behind_prove, dashes, same_text}
@@ -143,7 +143,7 @@ read_prove : (rest : List Text) → subcommand_of the_command (codes "prove" ∷
 unfolding walked
 read_prove rest = ap entered_at (stopped_walk (codes "prove") [] rest)
 
--- and those behind `show`
+-- and those behind a name that takes nothing
 
 shows : (rest : List Text) → takes the_command (codes "show" ∷ rest) ≡ true → EndDashed rest
 unfolding walked
@@ -151,13 +151,37 @@ shows rest e =
     let level : level_passes (leaf (codes "show")) [] nothing_held rest false ≡ true = subst (λ (w : Walk). entered_passes (built the_command) w.stopped ≡ true) (stopped_walk (codes "show") [] rest) (both _ _ e).0 in
     level_words (leaf (codes "show")) nothing_held rest (both _ _ level).0
 
-show_forms : (takes the_command (codes "show" ∷ []) ≡ true) × (takes the_command (codes "show" ∷ dashes ∷ []) ≡ true)
-unfolding clap_on_literals
-show_forms = (refl, refl)
+checks : (rest : List Text) → takes the_command (codes "check" ∷ rest) ≡ true → EndDashed rest
+unfolding walked
+checks rest e =
+    let level : level_passes (leaf (codes "check")) [] nothing_held rest false ≡ true = subst (λ (w : Walk). entered_passes (built the_command) w.stopped ≡ true) (stopped_walk (codes "check") [] rest) (both _ _ e).0 in
+    level_words (leaf (codes "check")) nothing_held rest (both _ _ level).0
 
-read_show : (subcommand_of the_command (codes "show" ∷ []) ≡ Some (codes "show", [])) × (subcommand_of the_command (codes "show" ∷ dashes ∷ []) ≡ Some (codes "show", []))
+replays : (rest : List Text) → takes the_command (codes "replay" ∷ rest) ≡ true → EndDashed rest
+unfolding walked
+replays rest e =
+    let level : level_passes (leaf (codes "replay")) [] nothing_held rest false ≡ true = subst (λ (w : Walk). entered_passes (built the_command) w.stopped ≡ true) (stopped_walk (codes "replay") [] rest) (both _ _ e).0 in
+    level_words (leaf (codes "replay")) nothing_held rest (both _ _ level).0
+
+-- the command takes the name, alone or with `--` behind it, and reads nothing more
+abbrev AreForms : Text → Type 0
+AreForms name =
+    (takes the_command (name ∷ []) ≡ true)
+    × (takes the_command (name ∷ dashes ∷ []) ≡ true)
+    × (subcommand_of the_command (name ∷ []) ≡ Some (name, []))
+    × (subcommand_of the_command (name ∷ dashes ∷ []) ≡ Some (name, []))
+
+show_forms : AreForms (codes "show")
 unfolding clap_on_literals
-read_show = (refl, refl)
+show_forms = (refl, refl, refl, refl)
+
+check_forms : AreForms (codes "check")
+unfolding clap_on_literals
+check_forms = (refl, refl, refl, refl)
+
+replay_forms : AreForms (codes "replay")
+unfolding clap_on_literals
+replay_forms = (refl, refl, refl, refl)
 
 -- ---- the words that are taken
 
@@ -172,6 +196,8 @@ pub record AreRead (words : List Text) (mode : Mode) (met : Text × List Row) : 
 abbrev Ask : Mode → List Text → Type 0
 Ask (Prove budget) words = ((budget ≡ 100000) × EndIn (codes "prove" ∷ []) words) ⊎ GiveBudget budget words
 Ask Show words = EndIn (codes "show" ∷ []) words
+Ask Check words = EndIn (codes "check" ∷ []) words
+Ask Replay words = EndIn (codes "replay" ∷ []) words
 
 reads_proving : (rest : List Text) (budget : ℕ) → Says rest budget → AreRead (codes "prove" ∷ rest) (Prove budget) (codes "prove", rows_after the_rules [] rest)
 reads_proving rest budget says = record {
@@ -181,9 +207,9 @@ reads_proving rest budget says = record {
   read = says.read;
 }
 
-reads_showing : (words : List Text) → EndIn (codes "show" ∷ []) words → AreRead words Show (codes "show", [])
-reads_showing words (inl is) = subst (λ (ws : List Text). AreRead ws Show (codes "show", [])) (sym is) (record { taken = show_forms.0; rows = read_show.0; named = refl; read = λ text e. cc })
-reads_showing words (inr is) = subst (λ (ws : List Text). AreRead ws Show (codes "show", [])) (sym is) (record { taken = show_forms.1; rows = read_show.1; named = refl; read = λ text e. cc })
+reads_name : (mode : Mode) (name : Text) (words : List Text) → AreForms name → mode_named (name, []) ≡ Some mode → EndIn (name ∷ []) words → AreRead words mode (name, [])
+reads_name mode name words forms named (inl is) = subst (λ (ws : List Text). AreRead ws mode (name, [])) (sym is) (record { taken = forms.0; rows = forms.2; named = named; read = λ text e. cc })
+reads_name mode name words forms named (inr is) = subst (λ (ws : List Text). AreRead ws mode (name, [])) (sym is) (record { taken = forms.1; rows = forms.3; named = named; read = λ text e. cc })
 
 abbrev Reads : Mode → List Text → Type 0
 Reads mode words = (met : Text × List Row) × AreRead words mode met
@@ -206,7 +232,9 @@ given budget words g = subst (λ (n : ℕ). Reads (Prove n) words) (sym g.is) (e
 reads : (mode : Mode) (words : List Text) → Ask mode words → Reads mode words
 reads (Prove budget) words (inl usually) = subst (λ (n : ℕ). Reads (Prove n) words) (sym usually.0) (usual words usually.1)
 reads (Prove budget) words (inr budgeted) = given budget words budgeted
-reads Show words ask = ((codes "show", []), reads_showing words ask)
+reads Show words ask = ((codes "show", []), reads_name Show (codes "show") words show_forms refl ask)
+reads Check words ask = ((codes "check", []), reads_name Check (codes "check") words check_forms refl ask)
+reads Replay words ask = ((codes "replay", []), reads_name Replay (codes "replay") words replay_forms refl ask)
 
 asks_behind : (words rest : List Text) → words ≡ codes "prove" ∷ rest → Behind rest → (mode : Mode) × Ask mode words
 asks_behind words rest is (inl (inl none)) = (Prove 100000, inl (refl, inl cc))
@@ -220,17 +248,30 @@ asks_behind words rest is (inr b) =
     in_words (inl none) (inr spelled) = inr (inl cc)
     in_words (inr end) (inr spelled) = inr (inr cc)
 
-none_met : (b c : Bool) → b ≡ false → c ≡ false
-    → option_map (λ (s : Text × List Text). s.0) (if b || false then Some (codes "prove", []) else (if c || false then Some (codes "show", []) else None)) ≡ None
-none_met true c is js = cc
-none_met false true is js = cc
-none_met false false is js = refl
+none_met : (b c d e : Bool) → b ≡ false → c ≡ false → d ≡ false → e ≡ false
+    → option_map (λ (s : Text × List Text). s.0)
+    (if b || false then Some (codes "prove", []) else (if c || false then Some (codes "show", [])
+    else (if d || false then Some (codes "check", []) else (if e || false then Some (codes "replay", []) else None)))) ≡ None
+none_met false false false false b c d e = refl
+none_met true c d e is js ks ls = cc
+none_met false true d e is js ks ls = cc
+none_met false false true e is js ks ls = cc
+none_met false false false true is js ks ls = cc
 
-unmet_or : (word : Text) (b c : Bool) → b ≡ bytes_eq (codes "prove") word → c ≡ bytes_eq (codes "show") word
-    → (word ≡ codes "prove") ⊎ ((word ≡ codes "show") ⊎ (subcommand_met the_names idle word ≡ None))
-unmet_or word true c is js = inl (sym (same_text (codes "prove") word (sym is)))
-unmet_or word false true is js = inr (inl (sym (same_text (codes "show") word (sym js))))
-unmet_or word false false is js = inr (inr (none_met (bytes_eq (codes "prove") word) (bytes_eq (codes "show") word) (sym is) (sym js)))
+-- what the first word is
+data First (word : Text) : Type 0 where
+  proving : word ≡ codes "prove" → First word
+  showing : word ≡ codes "show" → First word
+  checking : word ≡ codes "check" → First word
+  replaying : word ≡ codes "replay" → First word
+  stray : subcommand_met the_names idle word ≡ None → First word
+
+first_of : (word : Text) (b c d e : Bool) → b ≡ bytes_eq (codes "prove") word → c ≡ bytes_eq (codes "show") word → d ≡ bytes_eq (codes "check") word → e ≡ bytes_eq (codes "replay") word → First word
+first_of word true c d e is js ks ls = proving (sym (same_text (codes "prove") word (sym is)))
+first_of word false true d e is js ks ls = showing (sym (same_text (codes "show") word (sym js)))
+first_of word false false true e is js ks ls = checking (sym (same_text (codes "check") word (sym ks)))
+first_of word false false false true is js ks ls = replaying (sym (same_text (codes "replay") word (sym ls)))
+first_of word false false false false is js ks ls = stray (none_met _ _ _ _ (sym is) (sym js) (sym ks) (sym ls))
 
 nothing_untaken : takes the_command [] ≡ false
 unfolding clap_on_literals
@@ -259,21 +300,22 @@ ask_proving word rest is e =
     let level = proves rest (ap (takes the_command) (sym words) ∙ e) in
     asks_behind (word ∷ rest) rest words (behind_prove rest ((both _ _ level).0, (both _ _ (both _ _ level).1).0))
 
-ask_showing : (word : Text) (rest : List Text) → word ≡ codes "show" → takes the_command (word ∷ rest) ≡ true → Ask Show (word ∷ rest)
-ask_showing word rest is e =
-    let words : word ∷ rest ≡ codes "show" ∷ rest = ap (λ w. w ∷ rest) is in
-    elim (shows rest (ap (takes the_command) (sym words) ∙ e)) [
-      | inl none ↦ inl cc
-      | inr end ↦ inr cc
-    ]
+-- the words are the name with what may stand behind it
+ends_in : (name word : Text) (rest : List Text) → word ≡ name → (takes the_command (name ∷ rest) ≡ true → EndDashed rest) → takes the_command (word ∷ rest) ≡ true → EndIn (name ∷ []) (word ∷ rest)
+ends_in name word rest is ends e = elim (ends (ap (takes the_command) (ap (λ w. w ∷ rest) (sym is)) ∙ e)) [
+  | inl none ↦ inl cc
+  | inr end ↦ inr cc
+]
 
 -- the words that the command takes ask for a mode
 taken_ask : (words : List Text) → takes the_command words ≡ true → (mode : Mode) × Ask mode words
 taken_ask [] e = let untaken : false ≡ true = sym nothing_untaken ∙ e in cc
-taken_ask (word ∷ rest) e = elim (unmet_or word (bytes_eq (codes "prove") word) (bytes_eq (codes "show") word) refl refl) [
-  | inl is ↦ ask_proving word rest is e
-  | inr (inl is) ↦ (Show, ask_showing word rest is e)
-  | inr (inr unmet) ↦ absurd (unmet_refused word rest unmet e)
+taken_ask (word ∷ rest) e = elim (first_of word _ _ _ _ refl refl refl refl) [
+  | proving is ↦ ask_proving word rest is e
+  | showing is ↦ (Show, ends_in (codes "show") word rest is (shows rest) e)
+  | checking is ↦ (Check, ends_in (codes "check") word rest is (checks rest) e)
+  | replaying is ↦ (Replay, ends_in (codes "replay") word rest is (replays rest) e)
+  | stray none ↦ absurd (unmet_refused word rest none e)
 ]
 
 -- ---- the mode
@@ -304,8 +346,12 @@ asked words mode e =
 pub asks_to_prove : AsksToProve
 asks_to_prove words budget = (asked words (Prove budget), mode_asked (Prove budget) words)
 
-pub asks_to_show : AsksToShow
-asks_to_show words = (asked words Show, mode_asked Show words)
+pub asks_by_name : AsksByName
+asks_by_name = (
+  λ words. (asked words Show, mode_asked Show words),
+  λ words. (asked words Check, mode_asked Check words),
+  λ words. (asked words Replay, mode_asked Replay words),
+)
 
 none_when : (b : Bool) (mode : Option Mode) → b ≡ false → (if b then mode else None) ≡ None
 none_when true mode e = cc
@@ -327,6 +373,8 @@ ask_in_range : (mode : Mode) (words : List Text) → Ask mode words → IsInRang
 ask_in_range (Prove budget) words (inl usually) = let is = usually.0 in (omega (arith, is), omega (arith, is))
 ask_in_range (Prove budget) words (inr g) = let is = g.is in let least = g.is_budget.least in let most = g.is_budget.most in (omega (arith, is, least), omega (arith, is, most))
 ask_in_range Show words ask = tt
+ask_in_range Check words ask = tt
+ask_in_range Replay words ask = tt
 
 pub in_range : (o : Option Mode) (words : List Text) → o ≡ mode_of words → IfSome o IsInRange
 in_range None words is = tt

@@ -7,7 +7,7 @@ use Rattle.clap.specs.Words.{App, Row, Rule, Text, new_app, new_rule, one_of, su
 use Rattle.clap.specs.Simple.{new_shape, on_top}
 use Rattle.clap.specs.declared.builder.value_parser.ValueParser.TheVariants as parsers
 use Rattle.lv_command.specs.declared.mode.Mode.{Mode}
-use Rattle.lv_command.specs.declared.mode.Mode.TheVariants.{Prove, Show}
+use Rattle.lv_command.specs.declared.mode.Mode.TheVariants.{Check, Prove, Replay, Show}
 
 -- ---- the command
 
@@ -21,9 +21,9 @@ budget_rule = record (new_rule (codes "budget")) {
 abbrev pub prove_command : App
 prove_command = with_rule (new_app (codes "prove")) budget_rule
 
--- the command, which has no flags and wants one of its two subcommands
-abbrev pub the_command : App
-the_command =
+-- the command with the subcommands on systems alone; it has no flags, and wants one of its subcommands
+abbrev pub command_on_systems : App
+command_on_systems =
     let leadsto = on_top (λ shape. record shape {
       no_binary_name = true;
       subcommand_required = true;
@@ -32,6 +32,10 @@ the_command =
       disable_version_flag = true;
     }) (new_app (codes "leadsto")) in
     with_subcommand (with_subcommand leadsto prove_command.top) (new_shape (codes "show"))
+
+-- the command with those on a structure and on a lasso
+abbrev pub the_command : App
+the_command = with_subcommand (with_subcommand command_on_systems (new_shape (codes "check"))) (new_shape (codes "replay"))
 
 -- ---- the mode
 
@@ -54,6 +58,8 @@ abbrev pub mode_named : Text × List Row → Option Mode
 mode_named met =
     if bytes_eq met.0 (codes "prove") then Some (Prove (budget_of met.1))
     else if bytes_eq met.0 (codes "show") then Some Show
+    else if bytes_eq met.0 (codes "check") then Some Check
+    else if bytes_eq met.0 (codes "replay") then Some Replay
     else None
 
 -- the mode of the subcommand that the words name, where the command takes the words
@@ -64,6 +70,8 @@ mode_of words = if takes the_command words then option_and_then mode_named (subc
 abbrev pub IsInRange : Mode → Type 0
 IsInRange (Prove budget) = (1 ≤ budget) × (budget ≤ 1000000)
 IsInRange Show = Unit {0}
+IsInRange Check = Unit {0}
+IsInRange Replay = Unit {0}
 
 -- a budget that was read is a number that the command takes
 abbrev pub HasReadBudget : List Row → Type 0
@@ -71,12 +79,14 @@ HasReadBudget rows = (text : List ℕ) → one_of (codes "budget") rows ≡ Some
 
 -- ---- the laws
 
--- the words `prove` and `show` ask for their modes, and no words ask for none
+-- the names of the subcommands ask for their modes, and no words ask for none
 abbrev pub NamesEachMode : Type 0
 NamesEachMode = (mode_of (codes "prove" ∷ []) ≡ Some (Prove 100000))
     × (mode_of (codes "prove" ∷ codes "--budget" ∷ codes "7" ∷ []) ≡ Some (Prove 7))
     × (mode_of (codes "prove" ∷ codes "--budget=7" ∷ []) ≡ Some (Prove 7))
     × (mode_of (codes "show" ∷ []) ≡ Some Show)
+    × (mode_of (codes "check" ∷ []) ≡ Some Check)
+    × (mode_of (codes "replay" ∷ []) ≡ Some Replay)
     × (mode_of [] ≡ None)
     × (mode_of (codes "prove" ∷ codes "--budget=0" ∷ []) ≡ None)
     × (mode_of (codes "prove" ∷ codes "--budget=1000001" ∷ []) ≡ None)
@@ -97,9 +107,13 @@ abbrev pub AsksToProve : Type 0
 AsksToProve = (words : List (List ℕ)) (budget : ℕ)
     → (mode_of words ≡ Some (Prove budget)) ↔ (((budget ≡ 100000) × EndIn (codes "prove" ∷ []) words) ⊎ GiveBudget budget words)
 
--- the layout is asked for by `show` alone
-abbrev pub AsksToShow : Type 0
-AsksToShow = (words : List (List ℕ)) → (mode_of words ≡ Some Show) ↔ EndIn (codes "show" ∷ []) words
+-- the mode is asked for by this word alone
+abbrev pub AsksBy : Mode → List ℕ → Type 0
+AsksBy mode name = (words : List (List ℕ)) → (mode_of words ≡ Some mode) ↔ EndIn (name ∷ []) words
+
+-- the layout, a check and a replay are asked for by their names alone
+abbrev pub AsksByName : Type 0
+AsksByName = AsksBy Show (codes "show") × AsksBy Check (codes "check") × AsksBy Replay (codes "replay")
 
 -- no mode is asked for exactly where the command doesn't take the words
 abbrev pub AsksWhereTaken : Type 0

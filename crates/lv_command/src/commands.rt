@@ -3,7 +3,7 @@ ghost use Rattle.std.specs.Prelude.{◌≡◌, IfOk, IfSome, map, pos, string_by
 ghost use Rattle.clap.specs.Words.{app_of, found_of, rows_of, rule_of, subcommand_rows_of};
 ghost use Rattle.clap.specs.declared.builder.command.Command.TheViews.{out-Command};
 ghost use Rattle.clap.specs.declared.builder.value_parser.ValueParser.TheVariants as parsers;
-ghost use Rattle.lv_command.specs.Commands.{HasReadBudget, IsInRange, budget_of, budget_rule, mode_named, mode_of, prove_command, the_command};
+ghost use Rattle.lv_command.specs.Commands.{HasReadBudget, IsInRange, budget_of, budget_rule, command_on_systems, mode_named, mode_of, prove_command, the_command};
 
 use crate::mode::Mode;
 use clap::builder::ValueParser;
@@ -40,10 +40,10 @@ fn prove_command<'a>(alloc: Global) -> Result<Command<'a>, AllocError>
     Command::new(alloc, "prove").arg(budget_option(alloc))
 }
 
-/// The command with its two subcommands. There are no flags, not even for help. Behind the name of a
-/// subcommand `clap` takes nothing but its option and `--`.
-fn command<'a>(alloc: Global) -> Result<Command<'a>, AllocError>
-    ensures { IfOk result (λ c. app_of c ≡ the_command) }
+/// The command with the subcommands on systems alone. There are no flags, not even for help. Behind the name of
+/// a subcommand `clap` takes nothing but its option and `--`.
+fn command_on_systems<'a>(alloc: Global) -> Result<Command<'a>, AllocError>
+    ensures { IfOk result (λ c. app_of c ≡ command_on_systems) }
 {
     let leadsto = Command::new(alloc, "leadsto")
         .no_binary_name(true)
@@ -54,6 +54,15 @@ fn command<'a>(alloc: Global) -> Result<Command<'a>, AllocError>
     leadsto
         .subcommand(prove_command(alloc)?)?
         .subcommand(Command::new(alloc, "show"))
+}
+
+/// The command with all its subcommands.
+fn command<'a>(alloc: Global) -> Result<Command<'a>, AllocError>
+    ensures { IfOk result (λ c. app_of c ≡ the_command) }
+{
+    command_on_systems(alloc)?
+        .subcommand(Command::new(alloc, "check"))?
+        .subcommand(Command::new(alloc, "replay"))
 }
 
 /// The budget that was given behind `prove`, or the usual one.
@@ -74,6 +83,8 @@ fn mode_met(matches: &ArgMatches<'_>) -> Option<Mode>
             budget: budget(found),
         }),
         Some(("show", _)) => Some(Mode::Show),
+        Some(("check", _)) => Some(Mode::Check),
+        Some(("replay", _)) => Some(Mode::Replay),
         _ => None,
     }
 }

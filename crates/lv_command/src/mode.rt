@@ -6,4 +6,8 @@ pub enum Mode {
     Prove { budget: u32 },
     /// Write the system of the text in its layout.
     Show,
+    /// Check the structure of the text against one obligation of its system.
+    Check,
+    /// Replay the lasso of the text on its system.
+    Replay,
 }

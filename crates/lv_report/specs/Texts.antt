@@ -1,4 +1,4 @@
--- The texts of reports on a system's obligations.
+-- The texts of reports: on a system's obligations, on the check of a structure, on the replay of a lasso.
 use Rattle.std.specs.Prelude.{ℕ, Bool, false, eqb, List, [], ◌∷◌, ◌++◌, codes, decimal, slice_get, Option, Some, None}
 use Rattle.lv_formula.specs.declared.symbols.SortId.{SortId}
 use Rattle.lv_formula.specs.declared.vocabulary.Vocabulary.{Vocabulary}
@@ -69,6 +69,22 @@ too_large_text p index = heading (codes "too large") p index ++ codes "\n"
 
 abbrev pub spent_text : Parts → ℕ → ℕ → List ℕ
 spent_text p index learned = heading (codes "spent") p index ++ (codes " after " ++ (decimal learned ++ codes " learned clauses\n"))
+
+-- a number behind these words
+abbrev pub numbered_text : List ℕ → ℕ → List ℕ
+numbered_text words number = words ++ (decimal number ++ codes "\n")
+
+abbrev pub hypothesis_fails_text : ℕ → List ℕ
+hypothesis_fails_text number = numbered_text (codes "hypothesis fails ") number
+
+abbrev pub axiom_fails_text : ℕ → List ℕ
+axiom_fails_text number = numbered_text (codes "axiom fails ") number
+
+abbrev pub guard_fails_text : ℕ → List ℕ
+guard_fails_text step = numbered_text (codes "guard fails ") step
+
+abbrev pub unfair_text : Parts → ℕ → List ℕ
+unfair_text p fair = codes "unfair " ++ (name_at (λ c. c.name) p.fairs fair ++ codes "\n")
 
 -- ---- the first byte
 

@@ -18,7 +18,11 @@ pub(crate) fn push_number(text: &mut Vec<u8>, number: u64) -> Result<(), Memory>
 }
 
 /// Adds the name of the item with this number.
-fn push_name<T: HasName>(text: &mut Vec<u8>, items: &[T], number: u32) -> Result<(), Memory>
+pub(crate) fn push_name<T: HasName>(
+    text: &mut Vec<u8>,
+    items: &[T],
+    number: u32,
+) -> Result<(), Memory>
     ensures { OnOk result (text.new.items ≡ text.old.items ++ name_at T.text items.now number) }
 {
     match items.get(number as usize) {

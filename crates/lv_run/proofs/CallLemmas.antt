@@ -6,14 +6,15 @@ use Rattle.std.specs.declared.alloc.Global.{Global}
 use Rattle.std.specs.Io.KnownBytes.{IsAtEnd}
 use Rattle.lv_system.specs.declared.parts.Parts.{Parts}
 use Rattle.lv_command.specs.declared.mode.Mode.{Mode}
-use Rattle.lv_command.specs.declared.mode.Mode.TheVariants.{Prove, Show}
+use Rattle.lv_command.specs.declared.mode.Mode.TheVariants.{Check, Prove, Replay, Show}
 use Rattle.lv_struct.specs.Tables.{Tables}
 use Rattle.lv_labels.specs.declared.which.Which.TheVariants.{Catch}
 use Rattle.lv_labels.specs.Obligations.{AreValid}
 use Rattle.lv_prove.specs.Outcomes.{AreValidBefore, IsFirstBroken, IsFirstTooLarge, IsInFragment, IsValidAt, count}
 use Rattle.lv_run.specs.declared.detail.Detail.{Detail}
 use Rattle.lv_run.specs.declared.detail.Detail.TheVariants as D
-use Rattle.lv_run.specs.Answers.{Reading, NoTree, NoSystem, OneSystem, Reads, IsVerdict, IsAnswer, IsAnswered}
+use Rattle.lv_run.specs.Answers.{Reading, NoTree, NoText, OneSystem, OneCheck, OneReplay, Reads, IsVerdict, IsCheckAnswer, IsReplayAnswer, IsAnswer, IsAnswered, language_of}
+use Rattle.lv_run.specs.Requests.{CheckText, ReplayText}
 use Rattle.lv_run.specs.Calls.{AskFor, AreCommand, AreNoCommand, AreRead, IsReadAnswer, IsComposed, IsRead, HasAnswer, IsCaused, HasReason, IsLeft, IsOrFault, IsCounterOrSpent, IsEnough, IsNotSpent, IsProvedOrSpent, IsUsageOrFault}
 use Rattle.lv_run.proofs.ReadingLemmas.{one_reading}
 
@@ -27,6 +28,8 @@ to_text (D.NotStratified i ss) = true
 to_text (D.TooLarge i) = true
 to_text (D.Spent i log) = true
 to_text D.Shown = true
+to_text (D.Checked checked) = true
+to_text (D.Replayed answer) = true
 to_text (D.TreeRefused f) = true
 to_text (D.SyntaxRefused f) = true
 to_text D.Usage = false
@@ -42,6 +45,8 @@ verdict_to_text p budget (D.NotStratified i ss) v = refl
 verdict_to_text p budget (D.TooLarge i) v = refl
 verdict_to_text p budget (D.Spent i log) v = refl
 verdict_to_text p budget D.Shown v = absurd v
+verdict_to_text p budget (D.Checked checked) v = absurd v
+verdict_to_text p budget (D.Replayed answer) v = absurd v
 verdict_to_text p budget (D.TreeRefused f) v = absurd v
 verdict_to_text p budget (D.SyntaxRefused f) v = absurd v
 verdict_to_text p budget D.Usage v = absurd v
@@ -50,11 +55,55 @@ verdict_to_text p budget D.ReadFault v = absurd v
 verdict_to_text p budget D.WriteFault v = absurd v
 verdict_to_text p budget D.MemoryWanting v = absurd v
 
+check_to_text : (c : CheckText) (d : Detail) → IsCheckAnswer c d → to_text d ≡ true
+check_to_text c (D.Checked checked) v = refl
+check_to_text c (D.Proved n) v = absurd v
+check_to_text c (D.Counter i w) v = absurd v
+check_to_text c (D.NotStratified i ss) v = absurd v
+check_to_text c (D.TooLarge i) v = absurd v
+check_to_text c (D.Spent i log) v = absurd v
+check_to_text c D.Shown v = absurd v
+check_to_text c (D.Replayed answer) v = absurd v
+check_to_text c (D.TreeRefused f) v = absurd v
+check_to_text c (D.SyntaxRefused f) v = absurd v
+check_to_text c D.Usage v = absurd v
+check_to_text c D.TooLong v = absurd v
+check_to_text c D.ReadFault v = absurd v
+check_to_text c D.WriteFault v = absurd v
+check_to_text c D.MemoryWanting v = absurd v
+
+replay_to_text : (r : ReplayText) (d : Detail) → IsReplayAnswer r d → to_text d ≡ true
+replay_to_text r (D.Replayed answer) v = refl
+replay_to_text r (D.Proved n) v = absurd v
+replay_to_text r (D.Counter i w) v = absurd v
+replay_to_text r (D.NotStratified i ss) v = absurd v
+replay_to_text r (D.TooLarge i) v = absurd v
+replay_to_text r (D.Spent i log) v = absurd v
+replay_to_text r D.Shown v = absurd v
+replay_to_text r (D.Checked checked) v = absurd v
+replay_to_text r (D.TreeRefused f) v = absurd v
+replay_to_text r (D.SyntaxRefused f) v = absurd v
+replay_to_text r D.Usage v = absurd v
+replay_to_text r D.TooLong v = absurd v
+replay_to_text r D.ReadFault v = absurd v
+replay_to_text r D.WriteFault v = absurd v
+replay_to_text r D.MemoryWanting v = absurd v
+
 answer_to_text : (mode : Mode) (r : Reading) (d : Detail) → IsAnswer mode r d → to_text d ≡ true
 answer_to_text mode (NoTree f) d a = rw a refl
-answer_to_text mode (NoSystem f) d a = rw a refl
+answer_to_text mode (NoText f) d a = rw a refl
 answer_to_text (Prove budget) (OneSystem p) d a = verdict_to_text p budget d a
+answer_to_text (Prove budget) (OneCheck c) d a = absurd a
+answer_to_text (Prove budget) (OneReplay r) d a = absurd a
 answer_to_text Show (OneSystem p) d a = rw a refl
+answer_to_text Show (OneCheck c) d a = absurd a
+answer_to_text Show (OneReplay r) d a = absurd a
+answer_to_text Check (OneSystem p) d a = absurd a
+answer_to_text Check (OneCheck c) d a = check_to_text c d a
+answer_to_text Check (OneReplay r) d a = absurd a
+answer_to_text Replay (OneSystem p) d a = absurd a
+answer_to_text Replay (OneCheck c) d a = absurd a
+answer_to_text Replay (OneReplay r) d a = replay_to_text r d a
 
 untrue : false ≡ true → ⊥
 untrue e = cc
@@ -70,6 +119,8 @@ composed words left mode bytes d out asked read a = by d (answer_to_text mode a.
   by (D.TooLarge j) e i = i
   by (D.Spent j log) e i = i
   by D.Shown e i = i
+  by (D.Checked checked) e i = i
+  by (D.Replayed answer) e i = i
   by (D.TreeRefused f) e i = i
   by (D.SyntaxRefused f) e i = i
   by D.Usage e i = absurd (untrue e)
@@ -92,6 +143,8 @@ left_at_end mode bytes d out before now a end = by d (answer_to_text mode a.read
   by (D.TooLarge j) e = end
   by (D.Spent j log) e = end
   by D.Shown e = end
+  by (D.Checked checked) e = end
+  by (D.Replayed answer) e = end
   by (D.TreeRefused f) e = end
   by (D.SyntaxRefused f) e = end
   by D.Usage e = absurd (untrue e)
@@ -120,6 +173,8 @@ reason words left (D.NotStratified i ss) out c = caused words left _ out c
 reason words left (D.TooLarge i) out c = caused words left _ out c
 reason words left (D.Spent i log) out c = caused words left _ out c
 reason words left D.Shown out c = caused words left _ out c
+reason words left (D.Checked checked) out c = caused words left _ out c
+reason words left (D.Replayed answer) out c = caused words left _ out c
 reason words left (D.TreeRefused f) out c = caused words left _ out c
 reason words left (D.SyntaxRefused f) out c = caused words left _ out c
 reason words left D.Usage out c = c.0
@@ -147,6 +202,8 @@ only_usage words left (D.NotStratified i ss) r other = absurd (asked_for_one wor
 only_usage words left (D.TooLarge i) r other = absurd (asked_for_one words r.mode r.asked other)
 only_usage words left (D.Spent i log) r other = absurd (asked_for_one words r.mode r.asked other)
 only_usage words left D.Shown r other = absurd (asked_for_one words r.mode r.asked other)
+only_usage words left (D.Checked checked) r other = absurd (asked_for_one words r.mode r.asked other)
+only_usage words left (D.Replayed answer) r other = absurd (asked_for_one words r.mode r.asked other)
 only_usage words left (D.TreeRefused f) r other = absurd (asked_for_one words r.mode r.asked other)
 only_usage words left (D.SyntaxRefused f) r other = absurd (asked_for_one words r.mode r.asked other)
 only_usage words left D.Usage r other = tt
@@ -166,6 +223,8 @@ only_too_long words left (D.NotStratified i ss) r bytes w e long = absurd (read_
 only_too_long words left (D.TooLarge i) r bytes w e long = absurd (read_is_few words left _ bytes r e long)
 only_too_long words left (D.Spent i log) r bytes w e long = absurd (read_is_few words left _ bytes r e long)
 only_too_long words left D.Shown r bytes w e long = absurd (read_is_few words left _ bytes r e long)
+only_too_long words left (D.Checked checked) r bytes w e long = absurd (read_is_few words left _ bytes r e long)
+only_too_long words left (D.Replayed answer) r bytes w e long = absurd (read_is_few words left _ bytes r e long)
 only_too_long words left (D.TreeRefused f) r bytes w e long = absurd (read_is_few words left _ bytes r e long)
 only_too_long words left (D.SyntaxRefused f) r bytes w e long = absurd (read_is_few words left _ bytes r e long)
 only_too_long words left D.Usage r bytes w e long = absurd (asked_for_one words w.mode w.asked r)
@@ -176,14 +235,16 @@ only_too_long words left D.MemoryWanting r bytes w e long = tt
 
 -- the answer that has a cause is one of what the bytes come to
 has_answer : (words : List (String Global)) (left : Option (List ℕ)) (d : Detail) (mode : Mode) (bytes : List ℕ) (reading : Reading) → IsCaused words left d
-    → AskFor mode words → left ≡ Some bytes → Reads bytes reading → IsAnswer mode reading d
+    → AskFor mode words → left ≡ Some bytes → Reads (language_of mode) bytes reading → IsAnswer mode reading d
 has_answer words left d mode bytes reading r asked e reads =
     let a = (at_bytes _ left bytes e r.text).is in
-    subst (λ m. IsAnswer m reading d) (same_mode words r.mode mode r.asked asked)
-    (subst (λ x. IsAnswer r.mode x d) (one_reading bytes a.reading reading a.reads reads) a.is)
+    let same = same_mode words r.mode mode r.asked asked in
+    let read : Reads (language_of mode) bytes a.reading = subst (λ m. Reads (language_of m) bytes a.reading) same a.reads in
+    subst (λ x. IsAnswer mode x d) (one_reading (language_of mode) bytes a.reading reading read reads)
+    (subst (λ m. IsAnswer m a.reading d) same a.is)
 
 pub only_answer : (words : List (String Global)) (left : Option (List ℕ)) (d : Detail) → HasReason words left d
-    → (mode : Mode) (bytes : List ℕ) (reading : Reading) → AskFor mode words → left ≡ Some bytes → length bytes ≤ 1048576 → Reads bytes reading
+    → (mode : Mode) (bytes : List ℕ) (reading : Reading) → AskFor mode words → left ≡ Some bytes → length bytes ≤ 1048576 → Reads (language_of mode) bytes reading
     → IsOrFault (IsAnswer mode reading) d
 only_answer words left (D.Proved n) r mode bytes reading w e few reads = has_answer words left _ mode bytes reading r w e reads
 only_answer words left (D.Counter i m) r mode bytes reading w e few reads = has_answer words left _ mode bytes reading r w e reads
@@ -191,6 +252,8 @@ only_answer words left (D.NotStratified i ss) r mode bytes reading w e few reads
 only_answer words left (D.TooLarge i) r mode bytes reading w e few reads = has_answer words left _ mode bytes reading r w e reads
 only_answer words left (D.Spent i log) r mode bytes reading w e few reads = has_answer words left _ mode bytes reading r w e reads
 only_answer words left D.Shown r mode bytes reading w e few reads = has_answer words left _ mode bytes reading r w e reads
+only_answer words left (D.Checked checked) r mode bytes reading w e few reads = has_answer words left _ mode bytes reading r w e reads
+only_answer words left (D.Replayed answer) r mode bytes reading w e few reads = has_answer words left _ mode bytes reading r w e reads
 only_answer words left (D.TreeRefused f) r mode bytes reading w e few reads = has_answer words left _ mode bytes reading r w e reads
 only_answer words left (D.SyntaxRefused f) r mode bytes reading w e few reads = has_answer words left _ mode bytes reading r w e reads
 only_answer words left D.Usage r mode bytes reading w e few reads = absurd (asked_for_one words mode w r)
@@ -223,6 +286,8 @@ only_proved p budget (D.NotStratified i ss) a f valid = absurd (f.stratified i a
 only_proved p budget (D.TooLarge i) a f valid = absurd (not_large p i f a)
 only_proved p budget (D.Spent i log) a f valid = a.1
 only_proved p budget D.Shown a f valid = absurd a
+only_proved p budget (D.Checked checked) a f valid = absurd a
+only_proved p budget (D.Replayed answer) a f valid = absurd a
 only_proved p budget (D.TreeRefused fault) a f valid = absurd a
 only_proved p budget (D.SyntaxRefused fault) a f valid = absurd a
 only_proved p budget D.Usage a f valid = absurd a
@@ -250,6 +315,8 @@ only_counter p budget (D.NotStratified i ss) index w a f broken = absurd (f.stra
 only_counter p budget (D.TooLarge i) index w a f broken = absurd (not_large p i f a)
 only_counter p budget (D.Spent i log) index w a f broken = (a.1, not_past p i index w a.1.earlier broken)
 only_counter p budget D.Shown index w a f broken = absurd a
+only_counter p budget (D.Checked checked) index w a f broken = absurd a
+only_counter p budget (D.Replayed answer) index w a f broken = absurd a
 only_counter p budget (D.TreeRefused fault) index w a f broken = absurd a
 only_counter p budget (D.SyntaxRefused fault) index w a f broken = absurd a
 only_counter p budget D.Usage index w a f broken = absurd a
@@ -269,6 +336,8 @@ never_spent p budget (D.Spent i log) a enough =
     let most = enough i a.1.in_range s.clauses s.made in
     absurd (omega (arith, some, most))
 never_spent p budget D.Shown a enough = tt
+never_spent p budget (D.Checked checked) a enough = tt
+never_spent p budget (D.Replayed answer) a enough = tt
 never_spent p budget (D.TreeRefused fault) a enough = tt
 never_spent p budget (D.SyntaxRefused fault) a enough = tt
 never_spent p budget D.Usage a enough = tt

@@ -10,14 +10,19 @@ use Rattle.lv_run.specs.declared.detail.Detail.{Detail}
 use Rattle.lv_run.specs.declared.detail.Detail.TheVariants as D
 use Rattle.lv_grammar.specs.Layout.{shown_text}
 use Rattle.lv_command.specs.declared.mode.Mode.{Mode}
-use Rattle.lv_command.specs.declared.mode.Mode.TheVariants.{Prove, Show}
+use Rattle.lv_command.specs.declared.mode.Mode.TheVariants.{Check, Prove, Replay, Show}
 use Rattle.lv_prove.specs.declared.outcome.Outcome.TheVariants as O
 use Rattle.lv_prove.specs.Outcomes.{IsOutcome}
 use Rattle.lv_headline.specs.Headline.{IsProved}
 use Rattle.lv_headline.proofs.Sound.{text_proved}
 use Rattle.lv_report.specs.Texts.{begins_with_p}
 use Rattle.lv_syntax.proofs.ReadingLaw.{spells_at_most_one}
-use Rattle.lv_run.specs.Answers.{Reading, NoTree, NoSystem, OneSystem, Reads, IsAnswer, report_of, system_report}
+use Rattle.lv_run.specs.Answers.{Reading, NoTree, NoText, OneSystem, OneCheck, OneReplay, Systems, Reads, IsAnswer, IsCheckAnswer, IsReplayAnswer, check_report, checked_text, language_of, replay_report, replayed_text, report_of, system_report}
+use Rattle.lv_run.specs.Requests.{CheckText, ReplayText}
+use Rattle.lv_check.specs.declared.checking.Checked.{Checked}
+use Rattle.lv_check.specs.declared.checking.Checked.TheVariants as C
+use Rattle.lv_replay.specs.declared.answer.ReplayAnswer.{ReplayAnswer}
+use Rattle.lv_replay.specs.declared.answer.ReplayAnswer.TheVariants as L
 use Rattle.lv_run.specs.Calls.{AreRead, IsReadAnswer, IsComposed, IsDelivered, HasReason, BeginsWithP, told_of}
 use Rattle.lv_run.proofs.CallLemmas.{reason}
 
@@ -38,17 +43,19 @@ told_proof None bytes r h = tt
 told_proof (Some told) bytes r h = subst IsProved (sym r.all) h
 
 -- a text whose system has all its obligations valid is proved
-proof : (p : Parts) (bytes : List ℕ) (budget n : ℕ) → Reads bytes (OneSystem p) → IsOutcome p budget (O.Proved n) → IsProved bytes
+proof : (p : Parts) (bytes : List ℕ) (budget n : ℕ) → Reads Systems bytes (OneSystem p) → IsOutcome p budget (O.Proved n) → IsProved bytes
 proof p bytes budget n reads a = text_proved bytes p reads (λ other spells. spells_at_most_one bytes other p spells reads) a.1
 
 -- of the reports on a system the one that it is proved begins with `p`
-of_system : (p : Parts) (mode : Mode) (bytes : List ℕ) (d : Detail) → Reads bytes (OneSystem p) → IsAnswer mode (OneSystem p) d → StartsWithP (system_report p d) → IsProved bytes
+of_system : (p : Parts) (mode : Mode) (bytes : List ℕ) (d : Detail) → Reads (language_of mode) bytes (OneSystem p) → IsAnswer mode (OneSystem p) d → StartsWithP (system_report p d) → IsProved bytes
 of_system p (Prove budget) bytes (D.Proved n) reads a s = proof p bytes budget n reads a
 of_system p (Prove budget) bytes (D.Counter i w) reads a s = absurd (other_letter _ refl s)
 of_system p (Prove budget) bytes (D.NotStratified i ss) reads a s = absurd (other_letter _ refl s)
 of_system p (Prove budget) bytes (D.TooLarge i) reads a s = absurd (other_letter _ refl s)
 of_system p (Prove budget) bytes (D.Spent i log) reads a s = absurd (other_letter _ refl s)
 of_system p (Prove budget) bytes D.Shown reads a s = absurd a
+of_system p (Prove budget) bytes (D.Checked checked) reads a s = absurd a
+of_system p (Prove budget) bytes (D.Replayed answer) reads a s = absurd a
 of_system p (Prove budget) bytes (D.TreeRefused f) reads a s = absurd a
 of_system p (Prove budget) bytes (D.SyntaxRefused f) reads a s = absurd a
 of_system p (Prove budget) bytes D.Usage reads a s = absurd a
@@ -59,11 +66,64 @@ of_system p (Prove budget) bytes D.MemoryWanting reads a s = absurd a
 of_system p Show bytes d reads a s =
     let shown : StartsWithP (shown_text p) = subst (λ x. StartsWithP (system_report p x)) a s in
     absurd (other_letter (shown_text p) refl shown)
+of_system p Check bytes d reads a s = absurd reads
+of_system p Replay bytes d reads a s = absurd reads
 
-of_reading : (r : Reading) (mode : Mode) (bytes : List ℕ) (d : Detail) → Reads bytes r → IsAnswer mode r d → StartsWithP (report_of r d) → IsProved bytes
+-- and none of those on a check or a replay
+checked_letter : (checked : Checked) → begins_with_p (checked_text checked) ≡ false
+checked_letter C.Breaks = refl
+checked_letter (C.HypothesisFails number) = refl
+checked_letter C.ConclusionHolds = refl
+
+check_letter : (d : Detail) → StartsWithP (check_report d) → ⊥
+check_letter (D.Checked checked) s = other_letter (checked_text checked) (checked_letter checked) s
+check_letter (D.Proved n) s = nothing s.rest s.is
+check_letter (D.Counter i w) s = nothing s.rest s.is
+check_letter (D.NotStratified i ss) s = nothing s.rest s.is
+check_letter (D.TooLarge i) s = nothing s.rest s.is
+check_letter (D.Spent i log) s = nothing s.rest s.is
+check_letter D.Shown s = nothing s.rest s.is
+check_letter (D.Replayed answer) s = nothing s.rest s.is
+check_letter (D.TreeRefused f) s = nothing s.rest s.is
+check_letter (D.SyntaxRefused f) s = nothing s.rest s.is
+check_letter D.Usage s = nothing s.rest s.is
+check_letter D.TooLong s = nothing s.rest s.is
+check_letter D.ReadFault s = nothing s.rest s.is
+check_letter D.WriteFault s = nothing s.rest s.is
+check_letter D.MemoryWanting s = nothing s.rest s.is
+
+replayed_letter : (p : Parts) (answer : ReplayAnswer) → begins_with_p (replayed_text p answer) ≡ false
+replayed_letter p (L.AxiomFails number) = refl
+replayed_letter p L.NotInit = refl
+replayed_letter p (L.GuardFails step) = refl
+replayed_letter p L.LoopOpen = refl
+replayed_letter p (L.Unfair fair) = refl
+replayed_letter p L.Satisfies = refl
+replayed_letter p L.Violates = refl
+
+replay_letter : (p : Parts) (d : Detail) → StartsWithP (replay_report p d) → ⊥
+replay_letter p (D.Replayed answer) s = other_letter (replayed_text p answer) (replayed_letter p answer) s
+replay_letter p (D.Proved n) s = nothing s.rest s.is
+replay_letter p (D.Counter i w) s = nothing s.rest s.is
+replay_letter p (D.NotStratified i ss) s = nothing s.rest s.is
+replay_letter p (D.TooLarge i) s = nothing s.rest s.is
+replay_letter p (D.Spent i log) s = nothing s.rest s.is
+replay_letter p D.Shown s = nothing s.rest s.is
+replay_letter p (D.Checked checked) s = nothing s.rest s.is
+replay_letter p (D.TreeRefused f) s = nothing s.rest s.is
+replay_letter p (D.SyntaxRefused f) s = nothing s.rest s.is
+replay_letter p D.Usage s = nothing s.rest s.is
+replay_letter p D.TooLong s = nothing s.rest s.is
+replay_letter p D.ReadFault s = nothing s.rest s.is
+replay_letter p D.WriteFault s = nothing s.rest s.is
+replay_letter p D.MemoryWanting s = nothing s.rest s.is
+
+of_reading : (r : Reading) (mode : Mode) (bytes : List ℕ) (d : Detail) → Reads (language_of mode) bytes r → IsAnswer mode r d → StartsWithP (report_of r d) → IsProved bytes
 of_reading (NoTree f) mode bytes d reads a s = absurd (nothing s.rest s.is)
-of_reading (NoSystem f) mode bytes d reads a s = absurd (nothing s.rest s.is)
+of_reading (NoText f) mode bytes d reads a s = absurd (nothing s.rest s.is)
 of_reading (OneSystem p) mode bytes d reads a s = of_system p mode bytes d reads a s
+of_reading (OneCheck c) mode bytes d reads a s = absurd (check_letter d s)
+of_reading (OneReplay r) mode bytes d reads a s = absurd (replay_letter r.system d s)
 
 of_answer : (words : List (String Global)) (left : Option (List ℕ)) (d : Detail) (out : List ℕ) → IsReadAnswer words left d out → StartsWithP out → IfSome left IsProved
 of_answer words left d out c s =
@@ -77,6 +137,8 @@ of_composed words left (D.NotStratified i ss) out c s = of_answer words left _ o
 of_composed words left (D.TooLarge i) out c s = of_answer words left _ out c s
 of_composed words left (D.Spent i log) out c s = of_answer words left _ out c s
 of_composed words left D.Shown out c s = of_answer words left _ out c s
+of_composed words left (D.Checked checked) out c s = of_answer words left _ out c s
+of_composed words left (D.Replayed answer) out c s = of_answer words left _ out c s
 of_composed words left (D.TreeRefused f) out c s = of_answer words left _ out c s
 of_composed words left (D.SyntaxRefused f) out c s = of_answer words left _ out c s
 of_composed words left D.Usage out c s = absurd (nothing s.rest (sym c.1 ∙ s.is))

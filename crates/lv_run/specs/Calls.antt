@@ -13,7 +13,9 @@ use Rattle.lv_command.specs.declared.mode.Mode.{Mode}
 use Rattle.lv_command.specs.Commands.{mode_of}
 use Rattle.lv_run.specs.declared.detail.Detail.{Detail}
 use Rattle.lv_run.specs.declared.detail.Detail.TheVariants as D
-use Rattle.lv_run.specs.Answers.{Reading, Reads, IsAnswer, IsAnswered}
+use Rattle.lv_check.specs.declared.checking.Checked.TheVariants as C
+use Rattle.lv_replay.specs.declared.answer.ReplayAnswer.TheVariants as L
+use Rattle.lv_run.specs.Answers.{Reading, Reads, IsAnswer, IsAnswered, language_of}
 use Rattle.lv_run.specs.Refusals.{tree_refusal_text, syntax_refusal_text}
 
 -- ---- words
@@ -41,6 +43,10 @@ AreNoCommand words = mode_in words ≡ None
 abbrev pub status_of : Detail → ℕ
 status_of (D.Proved obligations) = 0
 status_of D.Shown = 0
+status_of (D.Checked C.Breaks) = 0
+status_of (D.Checked _) = 1
+status_of (D.Replayed L.Satisfies) = 0
+status_of (D.Replayed _) = 1
 status_of (D.Counter index w) = 1
 status_of D.Usage = 2
 status_of D.TooLong = 3
@@ -57,11 +63,13 @@ status_of D.MemoryWanting = 9
 abbrev pub told_of : Detail → List ℕ
 told_of (D.Proved obligations) = []
 told_of D.Shown = []
+told_of (D.Checked checked) = []
+told_of (D.Replayed answer) = []
 told_of (D.Counter index w) = []
 told_of (D.NotStratified index sorts) = []
 told_of (D.TooLarge index) = []
 told_of (D.Spent index log) = []
-told_of D.Usage = codes "usage: leadsto prove [--budget N] | show\n"
+told_of D.Usage = codes "usage: leadsto prove [--budget N] | show | check | replay\n"
 told_of D.TooLong = codes "text too long\n"
 told_of (D.TreeRefused fault) = tree_refusal_text fault
 told_of (D.SyntaxRefused fault) = syntax_refusal_text fault
@@ -91,6 +99,8 @@ IsComposed words left (D.NotStratified index sorts) out = IsReadAnswer words lef
 IsComposed words left (D.TooLarge index) out = IsReadAnswer words left (D.TooLarge index) out
 IsComposed words left (D.Spent index log) out = IsReadAnswer words left (D.Spent index log) out
 IsComposed words left D.Shown out = IsReadAnswer words left D.Shown out
+IsComposed words left (D.Checked checked) out = IsReadAnswer words left (D.Checked checked) out
+IsComposed words left (D.Replayed answer) out = IsReadAnswer words left (D.Replayed answer) out
 IsComposed words left (D.TreeRefused fault) out = IsReadAnswer words left (D.TreeRefused fault) out
 IsComposed words left (D.SyntaxRefused fault) out = IsReadAnswer words left (D.SyntaxRefused fault) out
 IsComposed words left D.Usage out = AreNoCommand words × (out ≡ [])
@@ -125,7 +135,7 @@ pub record IsRead (Is : List ℕ → Type 0) (bytes : List ℕ) : Type 0 where
 -- the bytes come to something that has this answer in this mode
 pub record HasAnswer (mode : Mode) (answer : Detail) (bytes : List ℕ) : Type 0 where
   pub reading : Reading
-  pub reads : Reads bytes reading
+  pub reads : Reads (language_of mode) bytes reading
   pub is : IsAnswer mode reading answer
 
 -- the words ask for a mode, and the text has this answer in it
@@ -141,6 +151,8 @@ HasReason words left (D.NotStratified index sorts) = IsCaused words left (D.NotS
 HasReason words left (D.TooLarge index) = IsCaused words left (D.TooLarge index)
 HasReason words left (D.Spent index log) = IsCaused words left (D.Spent index log)
 HasReason words left D.Shown = IsCaused words left D.Shown
+HasReason words left (D.Checked checked) = IsCaused words left (D.Checked checked)
+HasReason words left (D.Replayed answer) = IsCaused words left (D.Replayed answer)
 HasReason words left (D.TreeRefused fault) = IsCaused words left (D.TreeRefused fault)
 HasReason words left (D.SyntaxRefused fault) = IsCaused words left (D.SyntaxRefused fault)
 HasReason words left D.Usage = AreNoCommand words
@@ -160,6 +172,8 @@ IsLeft (D.NotStratified index sorts) before now = IsAtEnd now
 IsLeft (D.TooLarge index) before now = IsAtEnd now
 IsLeft (D.Spent index log) before now = IsAtEnd now
 IsLeft D.Shown before now = IsAtEnd now
+IsLeft (D.Checked checked) before now = IsAtEnd now
+IsLeft (D.Replayed answer) before now = IsAtEnd now
 IsLeft (D.TreeRefused fault) before now = IsAtEnd now
 IsLeft (D.SyntaxRefused fault) before now = IsAtEnd now
 IsLeft D.Usage before now = now ≡ before
@@ -190,6 +204,8 @@ IsOrFault Is (D.NotStratified index sorts) = Is (D.NotStratified index sorts)
 IsOrFault Is (D.TooLarge index) = Is (D.TooLarge index)
 IsOrFault Is (D.Spent index log) = Is (D.Spent index log)
 IsOrFault Is D.Shown = Is D.Shown
+IsOrFault Is (D.Checked checked) = Is (D.Checked checked)
+IsOrFault Is (D.Replayed answer) = Is (D.Replayed answer)
 IsOrFault Is (D.TreeRefused fault) = Is (D.TreeRefused fault)
 IsOrFault Is (D.SyntaxRefused fault) = Is (D.SyntaxRefused fault)
 IsOrFault Is D.Usage = Is D.Usage

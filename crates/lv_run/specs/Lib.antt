@@ -2,3 +2,4 @@ pub mod Answers
 pub mod Calls
 pub mod ErrorTexts
 pub mod Refusals
+pub mod Requests

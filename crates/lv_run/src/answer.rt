@@ -4,14 +4,17 @@ ghost use Rattle.lv_system.specs.declared.parts.Parts.{Parts};
 ghost use Rattle.lv_grammar.specs.LabelLimits.{labels_keep_limits};
 ghost use Rattle.lv_grammar.specs.Spelling.{Spells};
 ghost use Rattle.lv_command.specs.Commands.{IsInRange};
-ghost use Rattle.lv_run.specs.Answers.{IsSystemAnswer, IsRefusal, IsAnswered, detail_of};
+ghost use Rattle.lv_run.specs.Answers.{IsAnswered, IsCheckAnswered, IsRefusal, IsReplayAnswered, IsSystemAnswer, detail_of};
 ghost use Rattle.lv_run.specs.Calls.{told_of};
 ghost use Rattle.lv_run.specs.ErrorTexts.{error_bytes};
+ghost use Rattle.lv_run.specs.Requests.{IsReadyCheck, IsReadyReplay, check_seen, replay_seen};
 
 use crate::detail::Detail;
 use crate::outcome::{Reported, prove_reported};
-use crate::reader::{Refusal, read_text};
+use crate::reader::{Refusal, check_text, replay_text, system_text};
 use crate::refusals::{syntax_refusal, tree_refusal};
+use crate::requests::{CheckRequest, ReplayRequest};
+use crate::verdicts::{checked, checked_report, replayed, replayed_report};
 use lv_command::Mode;
 use lv_formula::Memory;
 use lv_show::show;
@@ -105,7 +108,26 @@ fn show_system(alloc: Global, system: &System) -> Result<Composed, Memory>
     Ok(reported(Detail::Shown, show(alloc, system)?))
 }
 
-/// The answer to a text that spells no system.
+/// The answer to a check.
+fn check_structure(alloc: Global, request: CheckRequest) -> Result<Composed, Memory>
+    requires { IsReadyCheck request }
+    ensures { IfOk result (λ composed. IsCheckAnswered (check_seen request) composed.detail composed.out) }
+{
+    let checked = checked(alloc, &request)?;
+    Ok(reported(Detail::Checked(checked), checked_report(alloc, checked)?))
+}
+
+/// The answer to a replay.
+fn replay_lasso(alloc: Global, request: ReplayRequest) -> Result<Composed, Memory>
+    requires { IsReadyReplay request }
+    ensures { IfOk result (λ composed. IsReplayAnswered (replay_seen request) composed.detail composed.out) }
+{
+    let answer = replayed(alloc, &request)?;
+    let report = replayed_report(alloc, &request.system, answer)?;
+    Ok(reported(Detail::Replayed(answer), report))
+}
+
+/// The answer to a text that spells nothing in its language.
 fn refuse(alloc: Global, refusal: Refusal) -> Result<Composed, Memory>
     ensures { IfOk result (λ composed. IsRefusal refusal composed.detail composed.out) }
 {
@@ -124,18 +146,62 @@ fn refuse(alloc: Global, refusal: Refusal) -> Result<Composed, Memory>
     })
 }
 
-/// The answer to a text of at most 1,048,576 bytes. The error is want of memory.
+/// The answer of `prove` to a text of at most 1,048,576 bytes.
 #[tactic(auto, using(crate::proofs::AnswerLemmas::keeps_limits))]
+fn prove_text(alloc: Global, bytes: &[u8], budget: u32) -> Result<Composed, Memory>
+    requires few { length bytes.now ≤ 1048576 }
+    requires budget { 0 < budget }
+    ensures { IfOk result (λ composed. IsAnswered (Mode.Prove budget) bytes.now composed.detail composed.out) }
+{
+    match system_text(alloc, bytes) {
+        Ok(system) => prove_system(alloc, &system, budget),
+        Err(refusal) => refuse(alloc, refusal),
+    }
+}
+
+/// The answer of `show` to a text of at most 1,048,576 bytes.
+fn show_text(alloc: Global, bytes: &[u8]) -> Result<Composed, Memory>
+    requires { length bytes.now ≤ 1048576 }
+    ensures { IfOk result (λ composed. IsAnswered Mode.Show bytes.now composed.detail composed.out) }
+{
+    match system_text(alloc, bytes) {
+        Ok(system) => show_system(alloc, &system),
+        Err(refusal) => refuse(alloc, refusal),
+    }
+}
+
+/// The answer of `check` to a text of at most 1,048,576 bytes.
+fn check_bytes(alloc: Global, bytes: &[u8]) -> Result<Composed, Memory>
+    requires { length bytes.now ≤ 1048576 }
+    ensures { IfOk result (λ composed. IsAnswered Mode.Check bytes.now composed.detail composed.out) }
+{
+    match check_text(alloc, bytes) {
+        Ok(request) => check_structure(alloc, request),
+        Err(refusal) => refuse(alloc, refusal),
+    }
+}
+
+/// The answer of `replay` to a text of at most 1,048,576 bytes.
+fn replay_bytes(alloc: Global, bytes: &[u8]) -> Result<Composed, Memory>
+    requires { length bytes.now ≤ 1048576 }
+    ensures { IfOk result (λ composed. IsAnswered Mode.Replay bytes.now composed.detail composed.out) }
+{
+    match replay_text(alloc, bytes) {
+        Ok(request) => replay_lasso(alloc, request),
+        Err(refusal) => refuse(alloc, refusal),
+    }
+}
+
+/// The answer to a text of at most 1,048,576 bytes. The error is want of memory.
 pub(crate) fn answer(alloc: Global, mode: Mode, bytes: &[u8]) -> Result<Composed, Memory>
     requires few { length bytes.now ≤ 1048576 }
     requires range { IsInRange mode }
     ensures { IfOk result (λ composed. IsAnswered mode bytes.now composed.detail composed.out) }
 {
-    match read_text(alloc, bytes) {
-        Ok(system) => match mode {
-            Mode::Prove { budget } => prove_system(alloc, &system, budget),
-            Mode::Show => show_system(alloc, &system),
-        },
-        Err(refusal) => refuse(alloc, refusal),
+    match mode {
+        Mode::Prove { budget } => prove_text(alloc, bytes, budget),
+        Mode::Show => show_text(alloc, bytes),
+        Mode::Check => check_bytes(alloc, bytes),
+        Mode::Replay => replay_bytes(alloc, bytes),
     }
 }

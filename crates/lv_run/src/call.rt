@@ -11,7 +11,7 @@ ghost use Rattle.lv_labels.specs.Obligations.{AreValid};
 ghost use Rattle.lv_prove.specs.Outcomes.{IsFirstBroken, IsInFragment};
 ghost use Rattle.lv_headline.specs.Headline.{IsProved};
 ghost use Rattle.lv_command.specs.Commands.{IsInRange};
-ghost use Rattle.lv_run.specs.Answers.{Reading, Reads, IsAnswer};
+ghost use Rattle.lv_run.specs.Answers.{Reading, Reads, IsAnswer, language_of};
 ghost use Rattle.lv_run.specs.Calls.{AskFor, AreCommand, AreNoCommand, status_of, told_of, IsComposed, IsLeft, IsDelivered, Concludes, HasReason, BeginsWithP, IsOrFault, IsProvedOrSpent, IsCounterOrSpent, IsEnough, IsNotSpent, IsUsageOrFault};
 
 use crate::answer::{Composed, answer, told};
@@ -73,7 +73,7 @@ fn compose<S: Source>(alloc: Global, words: &[String], source: &mut S) -> Compos
         Ok(None) => told(
             alloc,
             Detail::Usage,
-            b"usage: leadsto prove [--budget N] | show\n",
+            b"usage: leadsto prove [--budget N] | show | check | replay\n",
         ),
         Err(_) => wanting(alloc),
     }
@@ -107,8 +107,8 @@ fn ended(detail: Detail) -> Report
 
 /// Does all that the program does: `words` are the words behind the program's name, `source` has the
 /// text, and reports go to `out` and `err`. Each refusal is one of the answers of [`Detail`]; the words
-/// are looked at first, then the text is read to its end, then what it spells is shown or decided, and
-/// a report is composed whole before its first byte is written.
+/// are looked at first, then the text is read to its end, then what it spells is shown, decided, checked or
+/// replayed, and a report is composed whole before its first byte is written.
 pub fn run<S: Source, O: Sink, E: Sink>(
     alloc: Global,
     words: &[String],
@@ -141,7 +141,7 @@ pub fn run<S: Source, O: Sink, E: Sink>(
     // obligations are all decided and valid, and to one with an obligation that isn't, save that the budget may be spent.
     ensures only_usage { AreNoCommand words.now → IsUsageOrFault result.detail }
     ensures only_too_long { (bytes : List ℕ) → AreCommand words.now → S.left source.old ≡ Some bytes → 1048576 < length bytes → IsOrFault (λ answer. answer ≡ Detail.TooLong) result.detail }
-    ensures only_answer { (mode : Mode) (bytes : List ℕ) (reading : Reading) → AskFor mode words.now → S.left source.old ≡ Some bytes → length bytes ≤ 1048576 → Reads bytes reading → IsOrFault (IsAnswer mode reading) result.detail }
+    ensures only_answer { (mode : Mode) (bytes : List ℕ) (reading : Reading) → AskFor mode words.now → S.left source.old ≡ Some bytes → length bytes ≤ 1048576 → Reads (language_of mode) bytes reading → IsOrFault (IsAnswer mode reading) result.detail }
     ensures only_proved { (budget : ℕ) (bytes : List ℕ) (p : Parts) → AskFor (Mode.Prove budget) words.now → S.left source.old ≡ Some bytes → length bytes ≤ 1048576 → Spells bytes p → IsInFragment p → AreValid p → IsOrFault (IsProvedOrSpent p budget) result.detail }
     ensures only_counter { (budget : ℕ) (bytes : List ℕ) (p : Parts) (index : ℕ) (w : Tables) → AskFor (Mode.Prove budget) words.now → S.left source.old ≡ Some bytes → length bytes ≤ 1048576 → Spells bytes p → IsInFragment p → IsFirstBroken p index w → IsOrFault (IsCounterOrSpent p budget index) result.detail }
 

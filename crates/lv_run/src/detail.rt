@@ -2,8 +2,10 @@ ghost use Rattle.std.specs.Prelude.{◌≡◌};
 ghost use Rattle.lv_run.specs.Answers.{detail_of};
 ghost use Rattle.lv_run.specs.Calls.{status_of};
 
+use lv_check::Checked;
 use lv_cnf::Log;
 use lv_formula::{List, SortId};
+use lv_lasso::ReplayAnswer;
 use lv_prove::Outcome;
 use lv_struct::Structure;
 use lv_syntax::SyntaxFault;
@@ -24,6 +26,10 @@ pub enum Detail {
     Spent { index: u32, log: Log },
     /// The system was shown.
     Shown,
+    /// The structure was checked against the obligation.
+    Checked(Checked),
+    /// The lasso was replayed.
+    Replayed(ReplayAnswer),
     /// The command doesn't take the words.
     Usage,
     /// Reading the text failed.
@@ -59,8 +65,11 @@ impl Detail {
         ensures { result ≡ status_of self.now }
     {
         match self {
-            Detail::Proved { .. } | Detail::Shown => 0,
-            Detail::Counter { .. } => 1,
+            Detail::Proved { .. }
+            | Detail::Shown
+            | Detail::Checked(Checked::Breaks)
+            | Detail::Replayed(ReplayAnswer::Satisfies) => 0,
+            Detail::Counter { .. } | Detail::Checked(_) | Detail::Replayed(_) => 1,
             Detail::Usage => 2,
             Detail::TooLong | Detail::TreeRefused(_) | Detail::SyntaxRefused(_) => 3,
             Detail::NotStratified { .. } => 4,

@@ -1,6 +1,7 @@
 //! The one call that does all that the program does.
 //!
-//! A text is read as a tree and then as a system, which is shown, or whose obligations are decided.
+//! A text is read as a tree and then as a system, which is shown, or whose obligations are decided; or as a system with a
+//! structure that is checked against an obligation, or with a lasso that is replayed.
 #![tactic(auto)]
 
 mod answer;
@@ -10,7 +11,11 @@ pub mod laws;
 mod outcome;
 mod reader;
 mod refusals;
+mod requests;
+mod verdicts;
 
 pub use call::{Report, run};
 pub use detail::Detail;
+pub use lv_check::Checked;
 pub use lv_command::Mode;
+pub use lv_lasso::ReplayAnswer;

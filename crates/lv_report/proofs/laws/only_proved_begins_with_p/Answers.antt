@@ -8,4 +8,8 @@ returns c = record {
   not_stratified = λ p index sorts. refl;
   too_large = λ p index. refl;
   spent = λ p index learned. refl;
+  hypothesis_fails = λ number. refl;
+  axiom_fails = λ number. refl;
+  guard_fails = λ step. refl;
+  unfair = λ p fair. refl;
 }
