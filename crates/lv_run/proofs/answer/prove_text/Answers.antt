@@ -5,5 +5,5 @@ use Rattle.lv_run.proofs.answer.prove_text.Goals as goal
 pub returns-in-Ok : goal.returns-in-Ok
 returns-in-Ok c = proof_answered c.args.budget c.args.bytes.now c.in-Ok.system c.prove_system.result c.in-Ok.ensures.found c.prove_system.ensures
 
-pub returns : goal.returns
-returns c = refusal_answered (Prove c.args.budget) c.args.bytes.now c.in-Err.refusal c.refuse.result c.in-Err.ensures.refused c.refuse.ensures
+pub returns-in-Err : goal.returns-in-Err
+returns-in-Err c = refusal_answered (Prove c.args.budget) c.args.bytes.now c.in-Err.refusal c.refuse.result c.in-Err.ensures.refused c.refuse.ensures

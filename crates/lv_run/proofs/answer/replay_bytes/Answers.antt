@@ -6,5 +6,5 @@ use Rattle.lv_run.proofs.answer.replay_bytes.Goals as goal
 pub returns-in-Ok : goal.returns-in-Ok
 returns-in-Ok c = replay_answered c.args.bytes.now (replay_seen c.in-Ok.request) c.replay_lasso.result c.in-Ok.ensures.found c.replay_lasso.ensures
 
-pub returns : goal.returns
-returns c = refusal_answered Replay c.args.bytes.now c.in-Err.refusal c.refuse.result c.in-Err.ensures.refused c.refuse.ensures
+pub returns-in-Err : goal.returns-in-Err
+returns-in-Err c = refusal_answered Replay c.args.bytes.now c.in-Err.refusal c.refuse.result c.in-Err.ensures.refused c.refuse.ensures
