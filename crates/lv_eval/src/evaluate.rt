@@ -1,12 +1,11 @@
 ghost use Rattle.std.specs.Prelude.{◌≡◌, ◌≤◌, ◌∷◌, ◌+◌};
 ghost use Rattle.lv_formula.specs.Measures.{depth_of, depth_of_all};
 ghost use Rattle.lv_struct.specs.Tables.{meaning};
-ghost use Rattle.lv_formula.specs.Tuples.{tuple_eq};
 ghost use Rattle.lv_formula.specs.Truth.{truth_in, all_true_in, any_true_in, all_below, any_below, value_of, values_of, iff};
 
 use crate::env::Env;
 use lv_formula::{Formula, Rc, SortId, Sym, Term};
-use lv_struct::Structure;
+use lv_struct::{Elements, Structure};
 
 /// Whether the formula is true in the structure, where its free variables have the values of `env`, whose
 /// innermost value is that of variable 0. Takes no memory, and leaves `env` as it was.
@@ -111,32 +110,36 @@ fn term_value(term: &Term, m: &Structure, env: &Env) -> u32
     }
 }
 
+/// The elements that some terms stand for, as a tuple.
+#[derive(Clone, Copy, Drop)]
+struct TermElements<'a> {
+    terms: &'a [Term],
+    structure: &'a Structure,
+    env: &'a Env,
+}
+
+impl Elements for TermElements<'_> {
+    ghost elements = { λ t. values_of (meaning t.structure.now) t.env.now.values t.terms.now };
+
+    fn count(&self) -> usize {
+        self.terms.len()
+    }
+
+    fn at(&self, i: usize) -> u32 {
+        term_value(&self.terms[i], self.structure, self.env)
+    }
+}
+
 /// Whether the tuple of the terms' elements is in the relation.
 fn atom_holds(sym: Sym, terms: &[Term], m: &Structure, env: &Env) -> bool
     ensures { result ≡ (meaning m.now).holds sym (values_of (meaning m.now) env.now.values terms.now) }
 {
-    for tuple in m.tuples_of(sym) {
-        if is_tuple(tuple.as_slice(), terms, m, env) {
-            return true;
-        }
-    }
-    false
-}
-
-/// Whether the tuple is that of the terms' elements.
-#[tactic(auto, using(crate::proofs::TermLaws::lengths_differ))]
-fn is_tuple(tuple: &[u32], terms: &[Term], m: &Structure, env: &Env) -> bool
-    ensures { result ≡ tuple_eq tuple.now (values_of (meaning m.now) env.now.values terms.now) }
-{
-    if tuple.len() != terms.len() {
-        return false;
-    }
-    for i in 0..terms.len() {
-        if tuple[i] != term_value(&terms[i], m, env) {
-            return false;
-        }
-    }
-    true
+    let tuple = TermElements {
+        terms,
+        structure: m,
+        env,
+    };
+    m.has(sym, &tuple)
 }
 
 /// Whether the formula is true with the element as the innermost value.

@@ -7,7 +7,7 @@ use Rattle.std.proofs.lemmas.List.Elements.{All-nil, All-cons, All-head, All-tai
 use Rattle.std.proofs.lemmas.List.Kept.{AllPairs-cons}
 use Rattle.lv_formula.specs.declared.symbols.SortId.{SortId}
 use Rattle.lv_struct.proofs.CompareLaws.{tuple_tells}
-use Rattle.lv_formula.specs.Tuples.{each_before, has_tuple, over, tuple_eq, tuple_lt, tuples_over}
+use Rattle.lv_formula.specs.Tuples.{all_among, each_before, has_tuple, over, tuple_eq, tuple_lt, tuples_over}
 
 or_assoc : (a b c : Bool) → (a || (b || c)) ≡ ((a || b) || c)
 or_assoc true b c = refl
@@ -20,9 +20,17 @@ and_over_or true false true = refl
 and_over_or true false false = refl
 and_over_or false b c = refl
 
-pub has_tuple-append : (ts us : List (List ℕ)) (tuple : List ℕ) → has_tuple (ts ++ us) tuple ≡ (has_tuple ts tuple || has_tuple us tuple)
-has_tuple-append [] us tuple = refl
-has_tuple-append (t ∷ ts) us tuple = ap (λ b. tuple_eq t tuple || b) (has_tuple-append ts us tuple) ∙ or_assoc (tuple_eq t tuple) (has_tuple ts tuple) (has_tuple us tuple)
+pub has_tuple_append : (ts us : List (List ℕ)) (tuple : List ℕ) → has_tuple (ts ++ us) tuple ≡ (has_tuple ts tuple || has_tuple us tuple)
+has_tuple_append [] us tuple = refl
+has_tuple_append (t ∷ ts) us tuple = ap (λ b. tuple_eq t tuple || b) (has_tuple_append ts us tuple) ∙ or_assoc (tuple_eq t tuple) (has_tuple ts tuple) (has_tuple us tuple)
+
+and_assoc : (a b c : Bool) → (a && (b && c)) ≡ ((a && b) && c)
+and_assoc true b c = refl
+and_assoc false b c = refl
+
+pub all_among_append : (ts us vs : List (List ℕ)) → all_among (ts ++ us) vs ≡ (all_among ts vs && all_among us vs)
+all_among_append [] us vs = refl
+all_among_append (t ∷ ts) us vs = ap (λ b. has_tuple vs t && b) (all_among_append ts us vs) ∙ and_assoc (has_tuple vs t) (all_among ts vs) (all_among us vs)
 
 has_tuple-before : (n : ℕ) (ts : List (List ℕ)) (x : ℕ) (xs : List ℕ) → has_tuple (map (λ t. n ∷ t) ts) (x ∷ xs) ≡ (eqb n x && has_tuple ts xs)
 has_tuple-before n [] x xs = and_right_false (eqb n x)
@@ -51,7 +59,7 @@ below_more x n = ⊎_elim
 has_tuple-each_before : (n : ℕ) (ts : List (List ℕ)) (x : ℕ) (xs : List ℕ) → has_tuple (each_before n ts) (x ∷ xs) ≡ (ltb x n && has_tuple ts xs)
 has_tuple-each_before zero ts x xs = rw (le-ltb x 0 (omega arith)) refl
 has_tuple-each_before (suc n) ts x xs =
-    has_tuple-append (each_before n ts) (map (λ t. n ∷ t) ts) (x ∷ xs)
+    has_tuple_append (each_before n ts) (map (λ t. n ∷ t) ts) (x ∷ xs)
     ∙ ap₂ (λ a b. a || b) (has_tuple-each_before n ts x xs) (has_tuple-before n ts x xs)
     ∙ and_over_or (ltb x n) (eqb n x) (has_tuple ts xs)
     ∙ ap (λ b. b && has_tuple ts xs) (below_more x n)
@@ -59,7 +67,7 @@ has_tuple-each_before (suc n) ts x xs =
 has_tuple-each_before_empty : (n : ℕ) (ts : List (List ℕ)) → has_tuple (each_before n ts) [] ≡ false
 has_tuple-each_before_empty zero ts = refl
 has_tuple-each_before_empty (suc n) ts =
-    has_tuple-append (each_before n ts) (map (λ t. n ∷ t) ts) []
+    has_tuple_append (each_before n ts) (map (λ t. n ∷ t) ts) []
     ∙ ap₂ (λ a b. a || b) (has_tuple-each_before_empty n ts) (has_tuple-before_empty n ts)
 
 -- a tuple is among all tuples of the sorts exactly where it is in their range

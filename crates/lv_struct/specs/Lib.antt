@@ -1,4 +1,5 @@
 pub mod Changes
 pub mod Compare
+pub mod Numbers
 pub mod Tables
 pub mod Tabulation

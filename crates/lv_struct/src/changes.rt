@@ -3,8 +3,9 @@ ghost use Rattle.std.specs.Prelude.{◌≡◌, IfOk, map};
 ghost use Rattle.lv_struct.specs.Changes.{empty_relation, first_element, put_element, put_tuples};
 
 use crate::tables::{Constant, Relation};
-use crate::tuples::{copy, push_copies};
-use lv_formula::{ConShape, List, Memory, RelShape, Sym};
+use crate::tuple_list::TupleList;
+use crate::tuples::copy;
+use lv_formula::{ConShape, List, Memory, Rc, RelShape, Sym};
 use std::alloc::Global;
 
 /// The relation without tuples. The error is want of memory.
@@ -14,7 +15,7 @@ fn without_tuples(alloc: Global, shape: &RelShape) -> Result<Relation, Memory>
     Ok(Relation {
         sym: shape.sym,
         sorts: copy(alloc, shape.sorts.as_slice())?,
-        tuples: List::from_vec(Vec::new(alloc)),
+        tuples: Rc::new(alloc, TupleList::empty(alloc))?,
     })
 }
 
@@ -44,16 +45,18 @@ pub(crate) fn first_elements(alloc: Global, shapes: &[ConShape]) -> Result<List<
     Ok(List::from_vec(all))
 }
 
-/// The relation with these tuples. The error is want of memory.
-fn with_tuples(alloc: Global, relation: &Relation, tuples: &[List<u32>]) -> Result<Relation, Memory>
+/// The relation with these tuples, which are shared. The error is want of memory.
+fn with_tuples(
+    alloc: Global,
+    relation: &Relation,
+    tuples: &Rc<TupleList>,
+) -> Result<Relation, Memory>
     ensures { IfOk result (λ r. r ≡ record relation.now { tuples = tuples.now }) }
 {
-    let mut all = Vec::new(alloc);
-    push_copies(alloc, tuples, &mut all)?;
     Ok(Relation {
         sym: relation.sym,
         sorts: copy(alloc, relation.sorts.as_slice())?,
-        tuples: List::from_vec(all),
+        tuples: tuples.clone()?,
     })
 }
 
@@ -62,14 +65,14 @@ fn put_if_named(
     alloc: Global,
     relation: &Relation,
     sym: Sym,
-    tuples: &[List<u32>],
+    tuples: &Rc<TupleList>,
 ) -> Result<Relation, Memory>
     ensures { IfOk result (λ r. r ≡ put_tuples sym tuples.now relation.now) }
 {
     if relation.sym.equals(sym) {
         with_tuples(alloc, relation, tuples)
     } else {
-        with_tuples(alloc, relation, relation.tuples.as_slice())
+        with_tuples(alloc, relation, &relation.tuples)
     }
 }
 
@@ -78,7 +81,7 @@ pub(crate) fn put_relation(
     alloc: Global,
     relations: &[Relation],
     sym: Sym,
-    tuples: &[List<u32>],
+    tuples: &Rc<TupleList>,
 ) -> Result<List<Relation>, Memory>
     ensures { IfOk result (λ rs. rs ≡ map (put_tuples sym tuples.now) relations.now) }
 {
@@ -89,7 +92,7 @@ pub(crate) fn put_relation(
     Ok(List::from_vec(all))
 }
 
-/// Equal relations. The error is want of memory.
+/// Equal relations, which share their tuples. The error is want of memory.
 pub(crate) fn copy_relations(
     alloc: Global,
     relations: &[Relation],
@@ -98,7 +101,7 @@ pub(crate) fn copy_relations(
 {
     let mut all = Vec::new(alloc);
     for relation in relations {
-        all.push(with_tuples(alloc, relation, relation.tuples.as_slice())?)?;
+        all.push(with_tuples(alloc, relation, &relation.tuples)?)?;
     }
     Ok(List::from_vec(all))
 }

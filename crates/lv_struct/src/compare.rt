@@ -4,7 +4,6 @@ ghost use Rattle.lv_struct.specs.Compare.{constant_eq, has_constant_shape, has_r
 ghost use Rattle.lv_formula.specs.Tuples.{pairwise};
 
 use crate::tables::{Constant, Relation};
-use crate::tuples::are_among;
 use lv_formula::{ConShape, RelShape, SortId};
 
 /// A test against a value of another type.
@@ -65,8 +64,8 @@ impl Matches<Relation> for Relation {
     fn matches(&self, other: &Relation) -> bool {
         self.sym.equals(other.sym)
             && pair_up(self.sorts.as_slice(), other.sorts.as_slice())
-            && are_among(self.tuples.as_slice(), other.tuples.as_slice())
-            && are_among(other.tuples.as_slice(), self.tuples.as_slice())
+            && self.tuples.are_among(&other.tuples)
+            && other.tuples.are_among(&self.tuples)
     }
 }
 

@@ -7,11 +7,15 @@
 
 mod changes;
 mod compare;
+mod elements;
 mod interpretation;
+mod numbers;
 mod structure;
 mod tables;
 mod tabulation;
+mod tuple_list;
 mod tuples;
 
+pub use elements::Elements;
 pub use interpretation::Interpretation;
 pub use structure::Structure;

@@ -4,17 +4,19 @@ ghost use Rattle.lv_formula.specs.Vocabulary as vocabularies;
 ghost use Rattle.lv_struct.specs.Changes.{empty_structure, with_tuples, with_element};
 ghost use Rattle.lv_struct.specs.Compare.{IsSame, has_vocabulary, tables_eq};
 ghost use Rattle.lv_formula.specs.Meaning.{IsStructureOf, in_range};
-ghost use Rattle.lv_struct.specs.Tables.{HasVocabulary, IsInRange, IsSound, holds_in, meaning, size_in, size_of, sort_in, sorts_in, tuples_in, value_in};
+ghost use Rattle.lv_struct.specs.Tables.{HasVocabulary, IsInRange, IsSound, holds_in, meaning, size_in, size_of, sort_in, sorts_in, value_in};
 ghost use Rattle.lv_struct.specs.Tabulation.{tables_of};
 ghost use Rattle.lv_formula.specs.Tuples.{has_tuple, tuple_lt, tuples_over};
 
 use crate::changes::{copy_relations, empty_relations, first_elements, put_constant, put_relation};
 use crate::compare::pair_up;
+use crate::elements::{Elements, Tuple};
 use crate::interpretation::Interpretation;
 use crate::tables::{Constant, Relation};
 use crate::tabulation::{constants, relations, sizes, tuples_of_sorts};
-use crate::tuples::{contains_tuple, copy};
-use lv_formula::{List, Memory, SortId, Sym, Vocabulary};
+use crate::tuple_list::TupleList;
+use crate::tuples::copy;
+use lv_formula::{List, Memory, Rc, SortId, Sym, Vocabulary};
 use std::alloc::Global;
 use std::marker::Model;
 
@@ -103,24 +105,23 @@ impl Structure {
         0
     }
 
-    /// The tuples of the relation in the order in which they were put, repeated ones too. A relation that
-    /// is not there has none.
-    pub fn tuples_of(&self, sym: Sym) -> &[List<u32>]
-        ensures { result.now ≡ tuples_in self.now.relations sym }
+    /// Whether the relation has the tuple. A relation that is not there has none.
+    pub fn has<T: Elements>(&self, sym: Sym, tuple: &T) -> bool
+        ensures { result ≡ holds_in self.now sym (T.elements tuple.now) }
     {
         for relation in self.relations.as_slice() {
             if relation.sym.equals(sym) {
-                return relation.tuples.as_slice();
+                return relation.tuples.has(tuple);
             }
         }
-        &[]
+        false
     }
 
-    /// Whether the relation has the tuple.
+    /// Whether the relation has the tuple. A relation that is not there has none.
     pub fn holds(&self, sym: Sym, tuple: &[u32]) -> bool
         ensures { result ≡ holds_in self.now sym tuple.now }
     {
-        contains_tuple(self.tuples_of(sym), tuple)
+        self.has(sym, &Tuple { elements: tuple })
     }
 
     /// Whether the two are one structure: the same sizes, the same symbols in the same order with the same
@@ -175,7 +176,6 @@ impl Structure {
     }
 
     /// The structure in which the relation has these tuples and no others. The error is want of memory.
-    #[tactic(auto, using(crate::proofs::ChangeLaws::with_tuples_is_sound))]
     pub fn with_relation(
         &self,
         alloc: Global,
@@ -186,7 +186,8 @@ impl Structure {
         ensures { IfOk result (λ m. m ≡ with_tuples self.now sym tuples.now) }
     {
         let sizes = copy(alloc, self.sizes.as_slice())?;
-        let relations = put_relation(alloc, self.relations.as_slice(), sym, tuples)?;
+        let tuples = Rc::new(alloc, TupleList::from_tuples(alloc, tuples)?)?;
+        let relations = put_relation(alloc, self.relations.as_slice(), sym, &tuples)?;
         let constants = copy(alloc, self.constants.as_slice())?;
         Ok(Structure {
             sizes,

@@ -5,8 +5,9 @@ ghost use Rattle.lv_struct.specs.Tabulation.{constant_entry, relation_table, siz
 
 use crate::interpretation::Interpretation;
 use crate::tables::{Constant, Relation};
+use crate::tuple_list::TupleList;
 use crate::tuples::{copy, empty_tuple, put_each_before};
-use lv_formula::{ConShape, List, Memory, RelShape, SortId};
+use lv_formula::{ConShape, List, Memory, Rc, RelShape, SortId};
 use std::alloc::Global;
 
 /// The sizes of the first `sorts` sorts. The error is want of memory.
@@ -53,7 +54,7 @@ fn relation<I: Interpretation>(alloc: Global, shape: &RelShape, of: &I) -> Resul
     Ok(Relation {
         sym: shape.sym,
         sorts: copy(alloc, shape.sorts.as_slice())?,
-        tuples: List::from_vec(tuples),
+        tuples: Rc::new(alloc, TupleList::from_tuples(alloc, tuples.as_slice())?)?,
     })
 }
 

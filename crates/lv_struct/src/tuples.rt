@@ -1,34 +1,9 @@
 //! Tuples and lists of tuples.
 ghost use Rattle.std.specs.Prelude.{◌≡◌, ◌++◌, ◌∷◌, [], IfOk, OnOk, map};
-ghost use Rattle.lv_formula.specs.Tuples.{has_tuple, all_among, each_before};
+ghost use Rattle.lv_formula.specs.Tuples.{each_before};
 
-use crate::compare::pair_up;
 use lv_formula::{List, Memory};
 use std::alloc::Global;
-
-/// Whether the tuple is one of the tuples.
-pub(crate) fn contains_tuple(tuples: &[List<u32>], tuple: &[u32]) -> bool
-    ensures { result ≡ has_tuple tuples.now tuple.now }
-{
-    for t in tuples {
-        if pair_up(t.as_slice(), tuple) {
-            return true;
-        }
-    }
-    false
-}
-
-/// Whether each of the tuples is one of the others.
-pub(crate) fn are_among(tuples: &[List<u32>], others: &[List<u32>]) -> bool
-    ensures { result ≡ all_among tuples.now others.now }
-{
-    for tuple in tuples {
-        if !contains_tuple(others, tuple.as_slice()) {
-            return false;
-        }
-    }
-    true
-}
 
 /// An equal list. The error is want of memory.
 pub(crate) fn copy<T: Copy>(alloc: Global, items: &[T]) -> Result<List<T>, Memory>
