@@ -1,13 +1,12 @@
 -- What the solver's answer on the ground clauses says of the sentences.
-use Rattle.std.proofs.Common.{◌≡◌, ℕ, zero, suc, ◌+◌, ◌<◌, ◌≤◌, ◌^◌, true, List, [], ◌∷◌, length, get_or, Some, None, Result, Ok, Err, refl, sym, ap, ◌∙◌, subst, arith}
-use Rattle.std.specs.Prelude.{slice_get, IfOk}
+use Rattle.std.proofs.Common.{◌≡◌, ℕ, zero, suc, ◌+◌, ◌<◌, ◌≤◌, ◌^◌, true, List, [], ◌∷◌, length, get_or, Some, None, Ok, Err, refl, sym, ap, ◌∙◌, subst, arith}
+use Rattle.std.specs.Prelude.{slice_get}
 use Rattle.std.specs.List.{All}
 use Rattle.std.proofs.lemmas.Bool.{cases_lt}
 use Rattle.std.proofs.lemmas.List.{get_or_past}
 use Rattle.lv_formula.specs.declared.symbols.SortId.{SortId}
 use Rattle.lv_formula.specs.declared.vocabulary.Sentences.{Sentences}
 use Rattle.lv_formula.specs.declared.vocabulary.Vocabulary.{Vocabulary}
-use Rattle.lv_formula.specs.Meaning.{IsStructureOf, Meaning}
 use Rattle.lv_formula.specs.Pairs.{SentencesFit, breaks}
 use Rattle.lv_formula.specs.Vocabulary as vocabularies
 use Rattle.lv_cnf.specs.declared.clause.Clauses.{Clauses}
@@ -18,7 +17,7 @@ use Rattle.lv_places.specs.declared.skolem.Place.{Place}
 use Rattle.lv_places.specs.declared.skolem.Skolem.{Skolem}
 use Rattle.lv_places.specs.declared.terms.GroundTerm.{GroundTerm}
 use Rattle.lv_places.specs.Grounds.{IsGrounded}
-use Rattle.lv_places.specs.Sizes.{IsCount, IsWithin, limit, size_of}
+use Rattle.lv_places.specs.Sizes.{IsCount, limit, size_of}
 use Rattle.lv_places.specs.SortGraphs.{SortsBelow}
 use Rattle.lv_places.specs.Universes.{IsUniverse, argument_sorts, counts}
 use Rattle.lv_places.proofs.Tests.{either}

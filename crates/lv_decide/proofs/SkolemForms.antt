@@ -1,6 +1,5 @@
 -- Cycles, sizes, universes and ground forms don't look at what was found of cycle and size.
-use mathlib.Core.Path.{fun_ext}
-use Rattle.std.proofs.Common.{◌≡◌, ℕ, suc, ◌≤◌, List, [], ◌∷◌, ◌++◌, Option, Some, None, refl, sym, ap, ap₂, ◌∙◌, subst, arith}
+use Rattle.std.proofs.Common.{◌≡◌, ℕ, suc, ◌≤◌, List, [], ◌∷◌, ◌++◌, Option, Some, None, refl, sym, ap, ◌∙◌, subst, arith}
 use Rattle.lv_formula.specs.declared.symbols.SortId.{SortId}
 use Rattle.lv_formula.specs.declared.vocabulary.Sentences.{Sentences}
 use Rattle.lv_formula.specs.declared.vocabulary.Vocabulary.{Vocabulary}
@@ -9,14 +8,12 @@ use Rattle.lv_places.specs.declared.grounded.Grounded.{Grounded}
 use Rattle.lv_places.specs.declared.skolem.Place.{Place}
 use Rattle.lv_places.specs.declared.skolem.Skolem.{Skolem}
 use Rattle.lv_places.specs.declared.terms.GroundTerm.{GroundTerm}
-use Rattle.lv_places.specs.declared.terms.TermId.{TermId}
 use Rattle.lv_places.specs.Equality.{GroundClause, each_of, equality_clauses, place_change, place_clauses, relation_clauses, replacements, sort_clauses}
-use Rattle.lv_places.specs.Forms.{forms_of}
-use Rattle.lv_places.specs.GroundForms.{Trees, ground_all, naming_of}
+use Rattle.lv_places.specs.GroundForms.{Trees}
 use Rattle.lv_places.specs.Grounds.{IsGrounded, all_numbered, clauses_atoms, find_atom, number_clauses, trees_atoms, trees_of, with_atoms}
 use Rattle.lv_places.specs.Sizes.{IsCount, IsWithin, SizeIs, limit, size_of}
 use Rattle.lv_places.specs.SortGraphs.{CycleIs, HasCycle, IsCycle, IsRank}
-use Rattle.lv_places.specs.Universes.{IsUniverse, argument_sorts, counts, terms_with}
+use Rattle.lv_places.specs.Universes.{IsUniverse, argument_sorts, counts}
 use Rattle.lv_skolem.specs.Skolems.{IsSkolem, SizeUnless}
 use Rattle.lv_skolem.proofs.NoCycle.{no_cycle}
 use Rattle.lv_decide.specs.Fragments.{IsCycleOf, IsLarge, IsSizeOf, IsSmall, IsStratified, skolem_form}

@@ -1,5 +1,5 @@
 -- Two structures that agree on what a vocabulary names agree on each formula that fits it.
-use Rattle.std.proofs.Common.{◌≡◌, ℕ, zero, suc, ◌+◌, ◌<◌, Bool, true, false, not, ◌&&◌, ◌||◌, eqb, ltb, List, [], ◌∷◌, map, get_or, slice_get, Option, Some, None, refl, sym, ap, ap₂, subst, ◌∙◌, arith}
+use Rattle.std.proofs.Common.{◌≡◌, ℕ, zero, suc, ◌+◌, ◌<◌, true, false, not, ◌&&◌, ◌||◌, eqb, ltb, List, [], ◌∷◌, get_or, slice_get, Option, Some, None, refl, ap, ap₂, subst, ◌∙◌, arith}
 use Rattle.std.proofs.lemmas.Bool.{and_from, and_parts, eqb-true, lt-ltb, ltb-true}
 use Rattle.lv_formula.specs.declared.symbols.SortId.{SortId}
 use Rattle.lv_formula.specs.declared.symbols.Sym.{Sym}
@@ -7,9 +7,9 @@ use Rattle.lv_formula.specs.declared.terms.Term.{Term}
 use Rattle.lv_formula.specs.declared.terms.Term.TheVariants.{Var, Const}
 use Rattle.lv_formula.specs.declared.vocabulary.Vocabulary.{Vocabulary}
 use Rattle.lv_formula.specs.declared.formula.Formula.{Formula}
-use Rattle.lv_formula.specs.Vocabulary.{relation_in, constant_in}
-use Rattle.lv_formula.specs.Fits.{sort_of, is_sort, agree, have_sorts, are_arguments, each_fits, fits_step, fits_in, all_fit_in}
-use Rattle.lv_formula.proofs.Folds.{folds_at, fold_at-Atom, fold_at-Same, fold_at-Not, fold_at-And, fold_at-Or, fold_at-Implies, fold_at-Iff, fold_at-All, fold_at-Any}
+use Rattle.lv_formula.specs.Vocabulary.{relation_in}
+use Rattle.lv_formula.specs.Fits.{sort_of, is_sort, agree, have_sorts, are_arguments, fits_in, all_fit_in}
+use Rattle.lv_formula.proofs.Folds.{folds_at}
 use Rattle.lv_formula.proofs.Induction.{Cases, Each, by_cases}
 use Rattle.lv_formula.specs.Meaning.{AgreeOn, IsStructureOf, Meaning, in_range, is_element}
 use Rattle.lv_formula.proofs.Below.{all_below_same, any_below_same}

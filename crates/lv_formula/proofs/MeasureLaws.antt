@@ -1,5 +1,5 @@
 -- How the measures of a formula compare.
-use Rattle.std.proofs.Common.{◌≡◌, ℕ, ◌+◌, ◌≤◌, max, List, [], ◌∷◌, map, arith}
+use Rattle.std.proofs.Common.{◌≡◌, ◌+◌, ◌≤◌, List, [], ◌∷◌, arith}
 use Rattle.lv_formula.specs.declared.formula.Formula.{Formula}
 use Rattle.lv_formula.specs.Measures.{depth_of, depth_of_all, nodes_of, nodes_of_all}
 use Rattle.lv_formula.proofs.Folds.{folds}

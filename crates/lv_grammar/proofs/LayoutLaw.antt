@@ -1,5 +1,5 @@
 -- The lines of a text spell the trees that are written on them, the places aside.
-use Rattle.std.proofs.Common.{zero, suc, drop, get_or, ◌<◌, ◌≡◌, ℕ, ◌+◌, Bool, true, ◌&&◌, leb, ltb, List, [], ◌∷◌, ◌++◌, length, map, refl, sym, ap, subst, ◌∙◌, append_assoc, arith}
+use Rattle.std.proofs.Common.{zero, suc, drop, ◌<◌, ◌≡◌, ℕ, ◌+◌, Bool, true, ◌&&◌, leb, ltb, List, [], ◌∷◌, ◌++◌, length, map, refl, sym, ap, subst, ◌∙◌, append_assoc, arith}
 use Rattle.std.specs.Prelude.{not, codes}
 use Rattle.std.proofs.lemmas.List.{length-append}
 use Rattle.std.proofs.lemmas.Bool.{and_parts}

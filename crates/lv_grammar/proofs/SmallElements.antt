@@ -1,17 +1,16 @@
 -- The elements of a structure with few in each sort are small, and tuples of a relation are in range.
-use Rattle.std.proofs.Common.{◌≡◌, ℕ, zero, suc, ◌≤◌, Bool, true, false, ◌&&◌, ◌||◌, cond, eqb, ltb, List, [], ◌∷◌, map, get_or, Some, refl, sym, ap, ap₂, subst, ◌∙◌, arith}
+use Rattle.std.proofs.Common.{◌≡◌, ℕ, zero, suc, ◌≤◌, Bool, true, false, ◌&&◌, ◌||◌, cond, ltb, List, [], ◌∷◌, get_or, Some, refl, sym, ap, ◌∙◌, arith}
 use Rattle.std.specs.List.{All}
-use Rattle.std.proofs.lemmas.Bool.{and_parts, eqb-true, ltb-true}
+use Rattle.std.proofs.lemmas.Bool.{and_parts, ltb-true}
 use Rattle.std.proofs.lemmas.List.Elements.{All-head, All-tail}
 use Rattle.lv_formula.specs.declared.symbols.SortId.{SortId}
 use Rattle.lv_formula.specs.declared.symbols.Sym.{Sym}
 use Rattle.lv_formula.specs.declared.vocabulary.Vocabulary.{Vocabulary}
 use Rattle.lv_formula.specs.Symbols.{sym_eq}
 use Rattle.lv_formula.specs.Vocabulary.{relation_in}
-use Rattle.lv_struct.specs.declared.tables.Relation.{Relation}
 use Rattle.lv_struct.specs.declared.tables.Constant.{Constant}
-use Rattle.lv_struct.specs.Tables.{HasVocabulary, IsConstantSound, IsInRange, IsRelationSound, IsSound, Tables, element_in, holds_in, relation_shape, size_in, size_of, tuples_in}
-use Rattle.lv_formula.specs.Tuples.{has_tuple, over, tuple_eq, tuples_over}
+use Rattle.lv_struct.specs.Tables.{HasVocabulary, IsConstantSound, IsInRange, IsSound, Tables, element_in, holds_in, size_in, size_of}
+use Rattle.lv_formula.specs.Tuples.{has_tuple, over, tuples_over}
 use Rattle.lv_struct.proofs.RangeLaws.{tuples_in_range}
 use Rattle.lv_struct.proofs.TupleLaws.{All-from_has_tuple, has_tuple-filter, has_tuple-tuples_over}
 use Rattle.lv_grammar.specs.ShownStructures.{tuples_shown}

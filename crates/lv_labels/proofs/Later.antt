@@ -1,7 +1,7 @@
 -- Tests of the later positions of a lasso.
-use Rattle.std.proofs.Common.{◌≡◌, ℕ, zero, suc, ◌<◌, ◌≤◌, Bool, true, false, not, ◌&&◌, ◌||◌, leb, eqb, min, refl, sym, ap, ap₂, ◌∙◌, arith, inl, inr, ◌⊎◌, eqb-true, eq-eqb}
+use Rattle.std.proofs.Common.{◌≡◌, ℕ, zero, suc, ◌<◌, ◌≤◌, Bool, true, false, not, ◌&&◌, ◌||◌, leb, eqb, min, refl, sym, ap, ◌∙◌, arith, inl, inr, ◌⊎◌, eqb-true, eq-eqb}
 use Rattle.std.proofs.lemmas.Bool.{and_from, and_parts, and_cases, or_cases, or_left, or_right, false≢true, true≢false, cond_both, cases_eq, cases_lt, le-leb, lt-leb}
-use Rattle.lv_formula.specs.Truth.{all_below, any_below}
+use Rattle.lv_formula.specs.Truth.{all_below}
 use Rattle.lv_formula.proofs.Below.{all_below_same}
 use Rattle.lv_formula.proofs.Readings.{all_below-each, all_below-from}
 use Rattle.lv_system.specs.TemporalTruth.{Lasso, end_of, next_of, at_each_later}

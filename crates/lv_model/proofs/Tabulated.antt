@@ -1,7 +1,7 @@
 -- Structures that agree on a vocabulary have the same tables over it, and the tables break the same pairs.
-use Rattle.std.proofs.Common.{◌≡◌, ◌≢◌, ℕ, zero, suc, ◌+◌, ◌<◌, ◌≤◌, Bool, true, false, not, ◌&&◌, cond, ltb, List, [], ◌∷◌, ◌++◌, map, length, get_or, Some, refl, sym, ap, ap₂, ◌∙◌, subst, arith}
+use Rattle.std.proofs.Common.{◌≡◌, ◌≢◌, ℕ, zero, suc, ◌+◌, ◌<◌, ◌≤◌, Bool, true, false, not, ◌&&◌, cond, ltb, List, [], ◌∷◌, ◌++◌, map, length, get_or, Some, refl, sym, ap, ap₂, ◌∙◌, arith}
 use Rattle.std.specs.List.{All, AllPairs, filter}
-use Rattle.std.proofs.lemmas.Bool.{and_parts, and_from, lt-ltb, cond-true, cond-false}
+use Rattle.std.proofs.lemmas.Bool.{and_parts, and_from, lt-ltb}
 use Rattle.std.proofs.lemmas.List.Elements.{All-nil, All-cons, All-head, All-tail}
 use Rattle.lv_formula.specs.declared.symbols.SortId.{SortId}
 use Rattle.lv_formula.specs.declared.symbols.Sym.{Sym}
@@ -13,7 +13,7 @@ use Rattle.lv_formula.specs.declared.vocabulary.Vocabulary.{Vocabulary}
 use Rattle.lv_formula.specs.Fits.{all_fit_in, fits_in}
 use Rattle.lv_formula.specs.Meaning.{AgreeOn, IsStructureOf, Meaning, in_range}
 use Rattle.lv_formula.specs.Pairs.{SentencesFit, breaks}
-use Rattle.lv_formula.specs.Truth.{all_true_in, truth_in}
+use Rattle.lv_formula.specs.Truth.{all_true_in}
 use Rattle.lv_formula.specs.Tuples.{each_before, tuples_over}
 use Rattle.lv_formula.specs.Vocabulary as vocabularies
 use Rattle.lv_formula.specs.Vocabulary.{relation_in, constant_in}

@@ -1,6 +1,5 @@
 -- What code keeps of the structure of classes agrees with it.
 use Rattle.std.proofs.Common.{◌≡◌, ℕ, zero, suc, ◌+◌, ◌*◌, ◌<◌, ◌≤◌, Bool, true, false, ◌&&◌, cond, ltb, List, [], ◌∷◌, map, length, get_or, Option, Some, None, refl, sym, ap, ap₂, ◌∙◌, subst, arith}
-use Rattle.std.specs.Prelude.{slice_get}
 use Rattle.std.specs.List.{All}
 use Rattle.std.proofs.lemmas.Bool.{and_parts, ltb-true, cond-true, cond-false, cases_lt, false≢true}
 use Rattle.std.proofs.lemmas.List.{get_or-map, get_or_past, length-map}
@@ -12,16 +11,13 @@ use Rattle.lv_formula.specs.declared.vocabulary.RelShape.{RelShape}
 use Rattle.lv_formula.specs.declared.vocabulary.Sentences.{Sentences}
 use Rattle.lv_formula.specs.declared.vocabulary.Vocabulary.{Vocabulary}
 use Rattle.lv_formula.specs.Meaning.{AgreeOn, IsStructureOf, Meaning, in_range}
-use Rattle.lv_formula.specs.Pairs.{SentencesFit}
 use Rattle.lv_formula.specs.Symbols.{sym_eq}
 use Rattle.lv_formula.specs.Vocabulary.{IsSound, relation_in, constant_in}
 use Rattle.lv_formula.proofs.SymbolLaws.{sym_eq-true}
-use Rattle.lv_places.specs.Forms.{Forms, forms_of, occurs_some}
+use Rattle.lv_places.specs.Forms.{forms_of, occurs_some}
 use Rattle.lv_places.specs.GroundForms.{naming_of}
-use Rattle.lv_places.specs.Sizes.{at_least_one}
-use Rattle.lv_places.specs.Universes.{term, product, tuple_number, constant_id, constant_number, constant_sort}
+use Rattle.lv_places.specs.Universes.{product, tuple_number, constant_id, constant_number, constant_sort}
 use Rattle.lv_places.specs.declared.grounded.GroundAtom.TheVariants as make
-use Rattle.lv_places.specs.declared.skolem.Skolem.{Skolem}
 use Rattle.lv_places.specs.declared.terms.TermId.{TermId}
 use Rattle.lv_places.proofs.Tests.{either, by_cases}
 use Rattle.lv_places.proofs.Universes.{AreTerms, IsTerm, ConstantsAreTerms, same_sorts}
@@ -34,8 +30,8 @@ use Rattle.lv_model.specs.declared.rows.Row.{Row}
 use Rattle.lv_model.specs.declared.structure.Element.{Element}
 use Rattle.lv_model.specs.declared.structure.Quotient.{Quotient}
 use Rattle.lv_model.specs.declared.truths.Head.TheVariants.{Relation}
-use Rattle.lv_model.specs.Classes.{class_of, classes, member_of, equal_in, first_terms, term_class, class_holds, class_value, class_structure, count_below, is_first}
-use Rattle.lv_model.specs.Quotients.{list_to, firsts_to, numbers_to, classes_of, classes_to, classes_in, no_classes, offsets_of, offset, row_holds, rows_hold, IsRow, AreRows, element_of, element_in, told, IsQuotientOf}
+use Rattle.lv_model.specs.Classes.{class_of, classes, member_of, equal_in, first_terms, class_holds, class_value, class_structure}
+use Rattle.lv_model.specs.Quotients.{firsts_to, classes_of, classes_to, classes_in, no_classes, offsets_of, offset, row_holds, rows_hold, IsRow, AreRows, element_of, element_in, told, IsQuotientOf}
 use Rattle.lv_model.specs.Truths.{sort, numbers, truth}
 use Rattle.lv_model.proofs.Lists.{list_to_at, length-list_to, length-firsts_to, firsts_are_members}
 use Rattle.lv_model.proofs.Model.{first_term_is, no_more}

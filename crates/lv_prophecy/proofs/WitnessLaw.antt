@@ -1,5 +1,5 @@
 -- The sentences of the witnesses are true exactly where the definitions say.
-use Rattle.std.proofs.Common.{◌≡◌, ℕ, ◌<◌, ◌≤◌, Bool, true, false, not, ◌||◌, List, [], ◌∷◌, length, refl, sym, ap, ◌∙◌, ◌↔◌}
+use Rattle.std.proofs.Common.{◌≡◌, ℕ, ◌<◌, ◌≤◌, Bool, true, false, not, ◌||◌, List, [], ◌∷◌, refl, sym, ap, ◌∙◌, ◌↔◌}
 use Rattle.lv_formula.specs.declared.symbols.Sym.TheVariants.{Witness}
 use Rattle.lv_formula.specs.declared.terms.Term.TheVariants.{Const}
 use Rattle.lv_formula.specs.declared.formula.Formula.TheVariants.{Any}

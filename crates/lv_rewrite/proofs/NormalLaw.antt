@@ -1,12 +1,12 @@
 -- The truth of a normal form is that of the formula, or of its negation.
-use Rattle.std.proofs.Common.{◌≡◌, ℕ, zero, suc, Bool, true, false, not, ◌&&◌, ◌||◌, List, [], ◌∷◌, map, refl, sym, ap, ap₂, ◌∙◌}
+use Rattle.std.proofs.Common.{◌≡◌, ℕ, zero, suc, Bool, true, false, not, ◌&&◌, ◌||◌, List, [], ◌∷◌, refl, sym, ap, ap₂, ◌∙◌}
 use Rattle.lv_formula.specs.declared.symbols.SortId.{SortId}
 use Rattle.lv_formula.specs.declared.symbols.Sym.{Sym}
 use Rattle.lv_formula.specs.declared.terms.Term.{Term}
 use Rattle.lv_formula.specs.declared.formula.Formula.{Formula}
 use Rattle.lv_formula.specs.declared.formula.Formula.TheVariants.{True, False, Atom, Same, Not, And, Or, Implies, Iff, All, Any}
 use Rattle.lv_formula.proofs.Folds.{folds_at}
-use Rattle.lv_formula.proofs.Induction.{Cases, Each, by_cases}
+use Rattle.lv_formula.proofs.Induction.{Each, by_cases}
 use Rattle.lv_formula.specs.Meaning.{Meaning}
 use Rattle.lv_formula.specs.Truth.{Env, truth_in, all_true_in, any_true_in, all_below, any_below, iff}
 use Rattle.lv_rewrite.specs.Normal.{nnf_of, nnf_of_all, signed}

@@ -17,8 +17,7 @@ use Rattle.lv_headline.specs.Headline.{IsProved}
 use Rattle.lv_headline.proofs.Sound.{text_proved}
 use Rattle.lv_report.specs.Texts.{begins_with_p}
 use Rattle.lv_syntax.proofs.ReadingLaw.{spells_at_most_one}
-use Rattle.lv_run.specs.Answers.{Reading, NoTree, NoText, OneSystem, OneCheck, OneReplay, Systems, Reads, IsAnswer, IsCheckAnswer, IsReplayAnswer, check_report, checked_text, language_of, replay_report, replayed_text, report_of, system_report}
-use Rattle.lv_run.specs.Requests.{CheckText, ReplayText}
+use Rattle.lv_run.specs.Answers.{Reading, NoTree, NoText, OneSystem, OneCheck, OneReplay, Systems, Reads, IsAnswer, check_report, checked_text, language_of, replay_report, replayed_text, report_of, system_report}
 use Rattle.lv_check.specs.declared.checking.Checked.{Checked}
 use Rattle.lv_check.specs.declared.checking.Checked.TheVariants as C
 use Rattle.lv_replay.specs.declared.answer.ReplayAnswer.{ReplayAnswer}

@@ -9,7 +9,7 @@ use Rattle.lv_formula.specs.declared.symbols.Sym.{Sym}
 use Rattle.lv_formula.specs.declared.vocabulary.Vocabulary.{Vocabulary}
 use Rattle.lv_formula.specs.Symbols.{sym_eq}
 use Rattle.lv_formula.specs.Vocabulary as vocabularies
-use Rattle.lv_formula.specs.Vocabulary.{relation_in, constant_in, symbols_of}
+use Rattle.lv_formula.specs.Vocabulary.{relation_in, constant_in}
 use Rattle.lv_formula.proofs.SymbolLaws.{sym_eq-true}
 use Rattle.lv_struct.specs.declared.tables.Relation.{Relation}
 use Rattle.lv_struct.specs.declared.tables.Constant.{Constant}

@@ -23,7 +23,7 @@ use Rattle.lv_grammar.specs.Grammar.{Each, nothing, first_and_rest, IsWord, IsLi
 use Rattle.lv_syntax.specs.declared.draft.Draft.{Draft}
 use Rattle.lv_syntax.specs.declared.draft.Role.{Role}
 use Rattle.lv_reading.specs.declared.fault.SyntaxFault.{SyntaxFault}
-use Rattle.lv_reading.specs.Given.{◌>>=◌, word_layer, word_in, headed_items}
+use Rattle.lv_reading.specs.Given.{◌>>=◌, word_in, headed_items}
 use Rattle.lv_reading.proofs.TreesAgain.{listed_again, word_again, worded_again}
 use Rattle.lv_syntax.specs.Words.{keyword_of, constant_keyword, connective_keyword}
 use Rattle.lv_syntax.specs.Names.{new_variable, sort_in, is_temporal}

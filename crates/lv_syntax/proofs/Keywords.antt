@@ -1,6 +1,5 @@
 -- A keyword has one word.
-use Rattle.std.proofs.Common.{◌≡◌, ℕ, Bool, true, false, ◌&&◌, if◌then◌else◌, eqb, List, [], ◌∷◌, codes, Option, Some, None, refl, ap₂}
-use Rattle.std.proofs.lemmas.Bool.{eqb-true, eq-eqb}
+use Rattle.std.proofs.Common.{◌≡◌, ℕ, Bool, true, false, ◌&&◌, if◌then◌else◌, List, [], ◌∷◌, codes, Option, Some, None, refl}
 use Rattle.lv_system.specs.Names.{same_text}
 use Rattle.lv_syntax.specs.declared.words.Keyword.{Keyword}
 use Rattle.lv_syntax.specs.declared.words.Keyword.TheVariants as K

@@ -11,7 +11,7 @@ use Rattle.lv_system.specs.Names.{are_name_bytes, begins_small, is_name}
 use Rattle.lv_grammar.specs.Words.{Variable, is_variable, is_new_variable, are_new_variables, sort_name}
 use Rattle.lv_grammar.specs.Grammar.{Each, nothing, first_and_rest, IsWord, IsList, IsMark, without, with_word, ArePairs, no_pairs, pairs, AreParameters, AreNames}
 use Rattle.lv_syntax.specs.declared.draft.Draft.{Draft}
-use Rattle.lv_reading.specs.Given.{place_of, list_layer, list_in, headed_items, headed_layer, headed}
+use Rattle.lv_reading.specs.Given.{place_of}
 use Rattle.lv_syntax.specs.Names.{new_name, sort_in}
 use Rattle.lv_syntax.specs.Items.{mark_in, sorts_from, sorts_in, Declared, pairs_from, parameters_in, variables_of, scope_of, sorts_of, name_in, opened_in, arguments_from, arguments_in}
 use Rattle.lv_reading.proofs.Steps.{done}

@@ -1,5 +1,5 @@
 -- What it says of a system that its parts fit.
-use Rattle.std.proofs.Common.{◌≡◌, ℕ, zero, suc, ◌+◌, ◌<◌, ◌≤◌, Bool, true, false, not, ◌&&◌, cond, eqb, leb, ltb, List, [], ◌∷◌, ◌++◌, length, reverse, get_or, Option, Some, None, refl, sym, ap, subst, ◌∙◌, arith}
+use Rattle.std.proofs.Common.{◌≡◌, ℕ, zero, suc, ◌+◌, ◌<◌, ◌≤◌, Bool, true, false, ◌&&◌, cond, eqb, leb, ltb, List, [], ◌∷◌, ◌++◌, length, reverse, get_or, Some, None, refl, sym, ap, subst, ◌∙◌, arith}
 use Rattle.std.proofs.lemmas.Bool.{and_parts, and_from, leb-true, ltb-true, ne_eqb}
 use Rattle.lv_formula.specs.declared.symbols.SortId.{SortId}
 use Rattle.lv_formula.specs.declared.symbols.Sym.TheVariants.{Own}
@@ -7,10 +7,8 @@ use Rattle.lv_formula.specs.declared.terms.Term.{Term}
 use Rattle.lv_formula.specs.declared.formula.Formula.{Formula}
 use Rattle.lv_formula.specs.declared.temporal.Temporal.TheVariants.{True}
 use Rattle.lv_formula.specs.declared.vocabulary.Vocabulary.{Vocabulary}
-use Rattle.lv_formula.specs.Measures.{nodes_of}
-use Rattle.lv_formula.specs.Fits.{fits_in, all_fit_in, fits_up_to, sort_of, is_sort}
+use Rattle.lv_formula.specs.Fits.{fits_in, all_fit_in, sort_of, is_sort}
 use Rattle.lv_formula.specs.TemporalFits.{temporal_fits_in}
-use Rattle.lv_formula.specs.TemporalMeasures.{temporal_nodes_of}
 use Rattle.lv_formula.specs.Meaning.{Meaning}
 use Rattle.lv_system.specs.declared.parts.Parts.{Parts}
 use Rattle.lv_system.specs.declared.parts.Symbol.{Symbol}
@@ -22,15 +20,13 @@ use Rattle.lv_system.specs.declared.parts.ActionUpdate.TheVariants.{Relation, Co
 use Rattle.lv_system.specs.declared.parts.Fair.{Fair}
 use Rattle.lv_system.specs.declared.parts.LabelDecl.{LabelDecl}
 use Rattle.lv_system.specs.declared.parts.WitnessDecl.{WitnessDecl}
-use Rattle.lv_system.specs.declared.parts.Invariant.{Invariant}
 use Rattle.lv_system.specs.Vocabularies.{relation_sorts, constant_sort, fixed_vocabulary, own_vocabulary, witness_vocabulary}
-use Rattle.lv_system.specs.InvariantWords.{invariant_vocabulary, is_label_word}
 use Rattle.lv_system.specs.Step.{symbol_at, action_at, no_action, no_symbol, set_holds, set_value}
 use Rattle.lv_system.specs.Lasso.{fair_at, no_fair}
 use Rattle.lv_system.specs.Limits.{is_small, in_item, in_part, counts_fit}
 use Rattle.lv_system.specs.TemporalLimits.{is_small_temporal}
 use Rattle.lv_system.specs.Names.{names_fit}
-use Rattle.lv_system.specs.Fits.{is_sort_below, are_sorts_below, params_fit, shape_fits, shapes_fit, formula_fits, formulas_fit, temporal_fits, axioms_fit, inits_fit, changing_shape, body_fits, term_fits, update_fits, updates_fit, target_of, is_target, targets_differ, action_fits, actions_fit, fair_fits, fairs_fit, is_always, label_fits, labels_fit, witness_fits, witnesses_fit, property_fits, invariant_fits, invariants_fit, fits_parts}
+use Rattle.lv_system.specs.Fits.{is_sort_below, are_sorts_below, params_fit, shape_fits, shapes_fit, formula_fits, formulas_fit, axioms_fit, inits_fit, body_fits, term_fits, update_fits, updates_fit, target_of, targets_differ, action_fits, actions_fit, fair_fits, fairs_fit, is_always, label_fits, labels_fit, witness_fits, witnesses_fit, property_fits, invariants_fit, fits_parts}
 
 -- what stands for a label declaration, a witness, an invariant that is not there
 abbrev pub no_label : LabelDecl

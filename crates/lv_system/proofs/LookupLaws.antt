@@ -1,5 +1,5 @@
 -- What the vocabularies of a system say of each symbol.
-use Rattle.std.proofs.Common.{◌≡◌, ℕ, zero, suc, ◌+◌, ◌<◌, Bool, true, false, cond, eqb, ltb, leb, List, [], ◌∷◌, ◌++◌, length, take, slice_get, Option, Some, None, refl, sym, ap, ap₂, subst, ◌∙◌, arith}
+use Rattle.std.proofs.Common.{◌≡◌, ℕ, zero, suc, ◌+◌, ◌<◌, Bool, true, false, cond, eqb, ltb, leb, List, [], ◌∷◌, ◌++◌, length, take, slice_get, Option, Some, None, refl, sym, ap, ap₂, ◌∙◌, arith}
 use Rattle.std.proofs.lemmas.Bool.{eq-eqb, ne_eqb, lt-ltb}
 use Rattle.std.proofs.Math.Dec.{leb-suc-zero, leb-suc-suc}
 use Rattle.lv_formula.specs.declared.symbols.SortId.{SortId}
@@ -7,19 +7,17 @@ use Rattle.lv_formula.specs.declared.symbols.Sym.{Sym}
 use Rattle.lv_formula.specs.declared.symbols.Sym.TheVariants.{Own, Witness, Label, Frozen, Saved, Touched, Kept, Due, Copy, CopyLabel, Next, Param}
 use Rattle.lv_formula.specs.declared.vocabulary.RelShape.{RelShape}
 use Rattle.lv_formula.specs.declared.vocabulary.ConShape.{ConShape}
-use Rattle.lv_formula.specs.declared.vocabulary.Vocabulary.{Vocabulary}
 use Rattle.lv_formula.specs.Symbols.{sym_eq}
 use Rattle.lv_formula.specs.Vocabulary.{relation_in, constant_in}
 use Rattle.lv_system.specs.declared.parts.Parts.{Parts}
 use Rattle.lv_system.specs.declared.parts.Sort.{Sort}
 use Rattle.lv_system.specs.declared.parts.Symbol.{Symbol}
-use Rattle.lv_system.specs.declared.parts.Shape.{Shape}
 use Rattle.lv_system.specs.declared.parts.Fair.{Fair}
 use Rattle.lv_system.specs.declared.parts.WitnessDecl.{WitnessDecl}
 use Rattle.lv_system.specs.declared.usable.Usable.{Usable}
 use Rattle.lv_system.specs.declared.usable.Usable.TheVariants as usable
-use Rattle.lv_system.specs.Vocabularies.{relation_sorts, constant_sort, relation_if, constant_if, relations_from, constants_from, witnesses_from, any_symbol, is_fixed, own_vocabulary, fixed_vocabulary, witness_vocabulary}
-use Rattle.lv_system.specs.InvariantWords.{sets_from, dues_from, marks, is_changing, invariant_relations, invariant_constants, invariant_vocabulary}
+use Rattle.lv_system.specs.Vocabularies.{relation_sorts, constant_sort, relation_if, constant_if, relations_from, constants_from, witnesses_from, any_symbol, is_fixed, witness_vocabulary}
+use Rattle.lv_system.specs.InvariantWords.{sets_from, dues_from, marks, is_changing, invariant_relations, invariant_constants}
 use Rattle.lv_system.specs.Lookups.{vocabulary_of, relation_where, constant_where, params_of, witness_sort, one_if, own_relation, own_constant, witness_constant, invariant_relation, invariant_constant, usable_relation, usable_constant}
 
 abbrev or_else : {A : Type 0} → Option A → Option A → Option A

@@ -12,8 +12,7 @@ use Rattle.lv_formula.specs.Truth.{any_below, truth_in}
 use Rattle.lv_formula.proofs.Below.{any_below-holds}
 use Rattle.lv_formula.proofs.Readings.{any_below-some}
 use Rattle.lv_system.specs.declared.parts.Parts.{Parts}
-use Rattle.lv_system.specs.Step.{action_at, symbol_at}
-use Rattle.lv_system.specs.Vocabularies.{constant_sort}
+use Rattle.lv_system.specs.Step.{action_at}
 use Rattle.lv_labels.specs.Positions.{Bounded, run_of}
 use Rattle.lv_labels.specs.Problem.{Problem, choice_at, justice_at, label_at, problem_of}
 use Rattle.lv_labels.specs.Runs.{IsLabelledRun, Run, is_constant_value, is_denoted, is_finite, is_passed, is_witness_value, touched}

@@ -2,7 +2,7 @@
 use Rattle.std.proofs.Common.{◌≡◌, ℕ, zero, suc, ◌<◌, Bool, true, ◌&&◌, ltb, eqb, List, [], ◌∷◌, ◌++◌, map, length, get_or, slice_get, reverse, Option, Some, None, refl, sym, ap, ap₂, ◌∙◌, arith}
 use Rattle.std.proofs.lemmas.Bool.{and_from, and_parts, false≢true}
 use Rattle.std.proofs.lemmas.List.{length-map, length-reverse}
-use Rattle.std.proofs.lemmas.Option.{slice_get-get_or, slice_get_within}
+use Rattle.std.proofs.lemmas.Option.{slice_get-get_or}
 use Rattle.lv_formula.specs.declared.symbols.SortId.{SortId}
 use Rattle.lv_formula.specs.declared.symbols.Sym.{Sym}
 use Rattle.lv_formula.specs.declared.terms.Term.{Term}

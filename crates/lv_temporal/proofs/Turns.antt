@@ -1,13 +1,12 @@
 -- Each turn of a fair loop is a round.
-use Rattle.std.proofs.Common.{◌≡◌, ℕ, zero, suc, ◌+◌, ◌-◌, ◌<◌, ◌≤◌, min, Bool, true, false, not, ◌||◌, leb, ltb, List, [], ◌∷◌, ◌++◌, map, length, get_or, reverse, refl, sym, ap, ap₂, subst, ◌∙◌, arith, inl, inr, le_trans}
+use Rattle.std.proofs.Common.{◌≡◌, ℕ, zero, suc, ◌+◌, ◌-◌, ◌<◌, ◌≤◌, min, Bool, true, false, not, ◌||◌, leb, ltb, List, [], ◌∷◌, ◌++◌, map, length, get_or, reverse, refl, sym, ap, subst, ◌∙◌, arith, inl, inr, le_trans}
 use Rattle.std.proofs.lemmas.Bool.{or_left, or_right, or_parts, not-false, leb-true, cases_Bool, cases_eq, cases_lt}
-use Rattle.std.proofs.lemmas.List.{get_or-reverse}
 use Rattle.lv_formula.specs.declared.symbols.SortId.{SortId}
 use Rattle.lv_formula.specs.declared.symbols.Sym.TheVariants.{Label}
 use Rattle.lv_formula.specs.declared.formula.Formula.{Formula}
 use Rattle.lv_formula.proofs.Folds.{folds_at as truths}
 use Rattle.lv_formula.proofs.Induction.{Each}
-use Rattle.lv_formula.specs.Meaning.{Meaning, in_range, is_element}
+use Rattle.lv_formula.specs.Meaning.{in_range, is_element}
 use Rattle.lv_formula.specs.Tuples.{over}
 use Rattle.lv_formula.specs.Truth.{truth_in, values_of}
 use Rattle.lv_system.specs.declared.parts.Parts.{Parts}

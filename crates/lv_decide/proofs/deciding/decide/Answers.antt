@@ -1,5 +1,4 @@
 use Rattle.std.proofs.Common.{◌≡◌, subst}
-use Rattle.lv_model.specs.Building.{IsSkolemOf}
 use Rattle.lv_sat.specs.Verdict.{VerdictIs}
 use Rattle.lv_decide.proofs.Decided.{breaking, few_variables, ground_clauses_are, unbroken}
 use Rattle.lv_decide.proofs.deciding.decide.Goals as goal

@@ -1,4 +1,4 @@
-use Rattle.std.proofs.Common.{◌≡◌, Ok, sym, arith}
+use Rattle.std.proofs.Common.{◌≡◌, Ok, arith}
 use Rattle.lv_lasso.proofs.StepsFound.{lasso_found}
 use Rattle.lv_lasso.proofs.reading.read_lasso.Goals as goal
 

@@ -1,4 +1,4 @@
-use Rattle.std.proofs.Common.{◌≡◌, ℕ, zero, suc, false, List, Bool, [], ◌∷◌, ◌++◌, get_or, refl, subst, sym, length, length-append, arith}
+use Rattle.std.proofs.Common.{◌≡◌, ℕ, zero, suc, false, [], ◌∷◌, ◌++◌, get_or, refl, subst, sym, length, length-append, arith}
 use Rattle.lv_model.proofs.Tables.{still_false}
 use Rattle.lv_model.proofs.truths.none_true.Goals as goal
 

@@ -1,7 +1,5 @@
-use Rattle.std.proofs.Common.{◌≡◌, ◌∙◌, sym, subst, Result, Ok, Err}
-use Rattle.std.specs.Prelude.{IfOk}
+use Rattle.std.proofs.Common.{◌≡◌, ◌∙◌, sym, Ok, Err}
 use Rattle.lv_places.specs.Universes.{counts}
-use Rattle.lv_model.specs.Truths.{NumberIs, TupleNumberIs}
 use Rattle.lv_model.proofs.Tables.{relation_told, equality_told}
 use Rattle.lv_model.proofs.truths.number_in.Goals as goal
 

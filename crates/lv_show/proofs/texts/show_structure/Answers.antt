@@ -1,6 +1,4 @@
 use Rattle.std.proofs.Common.{rules, sym, subst}
-use Rattle.std.proofs.lemmas.Result.{IfOk-weaker}
-use Rattle.lv_grammar.specs.ShownStructures.{shown_structure}
 use Rattle.lv_grammar.specs.Structures.{SpellsStructure}
 use Rattle.lv_grammar.proofs.StructureText.{shown_spells}
 use Rattle.lv_show.proofs.texts.show_structure.Goals as goal
