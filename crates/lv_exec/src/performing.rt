@@ -161,29 +161,37 @@ fn tuples_where(
     ensures { IfOk result (λ ts. ts ≡ filter (is_true_with (meaning m.now) elements.now body.now) (tuples_over (size_in m.now) sorts.now)) }
 {
     let all = m.tuples(alloc, sorts)?;
+    let depth = body.depth();
+    // the room for values is taken once for all tuples
+    let mut values = Vec::new(alloc);
+    let mut env = Env::new(alloc);
     let mut kept = Vec::new(alloc);
     for tuple in all.as_slice() {
-        if is_true(alloc, body, elements, tuple.as_slice(), m)? {
-            kept.push(List::from_vec(Vec::from_slice(alloc, tuple.as_slice())?))?;
+        let tuple = tuple.as_slice();
+        if is_true(body, depth, elements, tuple, m, &mut values, &mut env)? {
+            kept.push(List::from_vec(Vec::from_slice(alloc, tuple)?))?;
         }
     }
     Ok(List::from_vec(kept))
 }
 
-/// Whether the body is true with the elements and the tuple. The error is want of memory.
+/// Whether the body is true with the elements and the tuple, which take the place of what `values` and `env`
+/// have. The error is want of memory.
 fn is_true(
-    alloc: Global,
     body: &Formula,
+    depth: u32,
     elements: &[u32],
     tuple: &[u32],
     m: &Structure,
+    values: &mut Vec<u32>,
+    env: &mut Env,
 ) -> Result<bool, Memory>
-    requires { depth_of body.now < 2 ^ 32 }
+    requires { depth_of body.now ≤ depth }
     ensures { IfOk result (λ b. b ≡ is_true_with (meaning m.now) elements.now body.now tuple.now) }
 {
-    let mut values = Vec::from_slice(alloc, elements)?;
+    values.clear();
+    values.extend_from_slice(elements)?;
     values.extend_from_slice(tuple)?;
-    let mut env = Env::new(alloc);
-    env.load(values.as_slice(), body.depth())?;
-    Ok(truth(body, m, &mut env))
+    env.load(values.as_slice(), depth)?;
+    Ok(truth(body, m, env))
 }

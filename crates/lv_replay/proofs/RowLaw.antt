@@ -1,6 +1,7 @@
 -- The rows of a temporal formula have, at each position, whether it holds there.
-use Rattle.std.proofs.Common.{◌≡◌, ℕ, zero, suc, ◌+◌, ◌-◌, ◌<◌, ◌≤◌, min, Bool, true, false, not, ◌&&◌, ◌||◌, eqb, List, [], ◌∷◌, ◌++◌, length, map, drop, get_or, refl, sym, ap, ap₂, ◌∙◌, arith}
-use Rattle.std.proofs.lemmas.Bool.{and_parts, and_from}
+use Rattle.std.proofs.Common.{◌≡◌, ℕ, zero, suc, ◌+◌, ◌-◌, ◌<◌, ◌≤◌, min, max, Bool, true, false, not, ◌&&◌, ◌||◌, eqb, leb, List, [], ◌∷◌, ◌++◌, length, map, drop, get_or, refl, sym, ap, ap₂, ◌∙◌, arith}
+use Rattle.std.proofs.Math.Bool as bool_laws
+use Rattle.std.proofs.lemmas.Bool.{and_parts, and_from, le-leb, leb-false, leb-true, lt-leb}
 use Rattle.std.proofs.lemmas.List.{append_assoc, drop_all, drop_more, get_or-drop, get_or-map, length-drop, length-map}
 use Rattle.lv_formula.specs.declared.symbols.SortId.{SortId}
 use Rattle.lv_formula.specs.declared.temporal.Temporal.{Temporal}
@@ -40,6 +41,35 @@ joined_end how (a ∷ as') (b ∷ bs) (suc n) h = joined_end how as' bs n (omega
 
 pub later_more : (stem : ℕ) (row : List Bool) (n : ℕ) → n < length row → later_from stem row n (drop n row) ≡ are_true (drop (min n stem) row) ∷ later_from stem row (n + 1) (drop (n + 1) row)
 later_more stem row n lt = ap (later_from stem row n) (drop_more row n false lt) ∙ ap (λ k. are_true (drop (min n stem) row) ∷ later_from stem row k (drop (n + 1) row)) (omega arith)
+
+-- the place from which on all is true, with the values told so far
+pub record TrueFrom (row : List Bool) (n from : ℕ) : Type 0 where
+  pub within : from ≤ n
+  pub at : (k : ℕ) → are_true (drop k row) ≡ (leb from k && are_true (drop (max k n) row))
+
+pub true_from-begins : (row : List Bool) → TrueFrom row 0 0
+true_from-begins row = record { within = omega arith; at = λ k. let e : k ≡ max k 0 = omega arith in ap (λ n. are_true (drop n row)) e ∙ ap (λ b. b && are_true (drop (max k 0) row)) (sym (le-leb 0 k (omega arith))) }
+
+pub true_from-more : (row : List Bool) (n from : ℕ) → n < length row → get_or row n false ≡ true → TrueFrom row n from → TrueFrom row (n + 1) from
+true_from-more row n from lt is before = record { within = let w = before.within in omega (arith, w); at = λ k. before.at k ∙ ap (λ b. leb from k && b) (same k (leb k n) refl) }
+  where
+    same : (k : ℕ) (b : Bool) → leb k n ≡ b → are_true (drop (max k n) row) ≡ are_true (drop (max k (n + 1)) row)
+    same k true le = let h : k ≤ n = leb-true k n le in let one : max k n ≡ n = omega (arith, h) in let more : max k (n + 1) ≡ n + 1 = omega (arith, h) in
+        ap (λ i. are_true (drop i row)) one ∙ (ap are_true (drop_more row n false lt) ∙ (ap (λ b. b && are_true (drop (n + 1) row)) is ∙ ap (λ i. are_true (drop i row)) (sym more)))
+    same k false gt = let h : n < k = leb-false k n gt in let e : max k n ≡ max k (n + 1) = omega (arith, h) in ap (λ i. are_true (drop i row)) e
+
+pub true_from-anew : (row : List Bool) (n from : ℕ) → n < length row → get_or row n false ≡ false → TrueFrom row n from → TrueFrom row (n + 1) (n + 1)
+true_from-anew row n from lt is before = record { within = omega arith; at = λ k. at k (leb k n) refl }
+  where
+    at : (k : ℕ) (b : Bool) → leb k n ≡ b → are_true (drop k row) ≡ (leb (n + 1) k && are_true (drop (max k (n + 1)) row))
+    at k true le = let h : k ≤ n = leb-true k n le in let one : max k n ≡ n = omega (arith, h) in
+        before.at k ∙ (ap (λ i. leb from k && are_true (drop i row)) one ∙ (ap (λ b. leb from k && b) (ap are_true (drop_more row n false lt) ∙ ap (λ b. b && are_true (drop (n + 1) row)) is)
+        ∙ (bool_laws.and-false (leb from k) ∙ ap (λ b. b && are_true (drop (max k (n + 1)) row)) (sym (lt-leb (n + 1) k (omega (arith, h)))))))
+    at k false gt = let h : n < k = leb-false k n gt in let e : max k (n + 1) ≡ k = omega (arith, h) in
+        sym (ap (λ b. b && are_true (drop (max k (n + 1)) row)) (le-leb (n + 1) k (omega (arith, h))) ∙ ap (λ i. are_true (drop i row)) e)
+
+pub true_from-ends : (row : List Bool) (n from : ℕ) → length row ≤ n → TrueFrom row n from → (k : ℕ) → are_true (drop k row) ≡ leb from k
+true_from-ends row n from end all k = all.at k ∙ (ap (λ xs. leb from k && are_true xs) (drop_all (max k n) row (omega (arith, end))) ∙ bool_laws.and-true (leb from k))
 
 -- ---- what the rows say
 

@@ -1,11 +1,11 @@
-ghost use Rattle.std.specs.Prelude.{◌≡◌, ◌<◌, ◌∷◌, IfOk, length, map, drop, eqb, min, not};
+ghost use Rattle.std.specs.Prelude.{◌≡◌, ◌<◌, ◌∷◌, ℕ, IfOk, length, map, drop, eqb, leb, min, not};
 ghost use Rattle.lv_struct.specs.Tables.{meaning};
 ghost use Rattle.lv_formula.specs.Truth.{value_of, values_of};
 ghost use Rattle.lv_replay.specs.Rows.{are_true, first_state, has_terms, joined, joined_all, joined_below, later, plain, row_of};
 
 use crate::joins::Join;
 use lv_formula::{List, Memory, Rc, SortId, Sym, Temporal, Term};
-use lv_struct::Structure;
+use lv_struct::{Elements, Structure};
 use std::alloc::Global;
 
 /// Whether the temporal formula holds at each of the positions, whose states are given and of which the loop
@@ -132,9 +132,10 @@ fn opposite(alloc: Global, values: &[bool]) -> Result<List<bool>, Memory>
 fn at_each_later(alloc: Global, stem: usize, values: &[bool]) -> Result<List<bool>, Memory>
     ensures { IfOk result (λ r. r ≡ later stem values.now) }
 {
+    let from = true_from(values);
     let mut row = Vec::new(alloc);
     for i in 0..values.len() {
-        row.push(all_true_from(least(i, stem), values))?;
+        row.push(from <= least(i, stem))?;
     }
     Ok(List::from_vec(row))
 }
@@ -155,17 +156,17 @@ fn least(a: usize, b: usize) -> usize
     if a < b { a } else { b }
 }
 
-/// Whether all truth values from that place on are true.
-fn all_true_from(from: usize, values: &[bool]) -> bool
-    requires { from < length values.now }
-    ensures { result ≡ are_true (drop from values.now) }
+/// The first place from which on all truth values are true; the end, where the last one is false.
+fn true_from(values: &[bool]) -> usize
+    ensures { (k : ℕ) → are_true (drop k values.now) ≡ leb result k }
 {
-    for value in &values[from..] {
-        if !*value {
-            return false;
+    let mut from = 0;
+    for i in 0..values.len() {
+        if !values[i] {
+            from = i + 1;
         }
     }
-    true
+    from
 }
 
 /// The one truth value at each position. The error is want of memory.
@@ -180,6 +181,28 @@ fn same_everywhere(alloc: Global, value: bool, states: &[Structure]) -> Result<L
     Ok(List::from_vec(row))
 }
 
+/// The elements that some terms stand for, as a tuple.
+#[derive(Clone, Copy, Drop)]
+struct TermElements<'a> {
+    terms: &'a [Term],
+    structure: &'a Structure,
+    values: &'a [u32],
+}
+
+impl Elements for TermElements<'_> {
+    ghost elements = { λ t. values_of (plain (meaning t.structure.now)) t.values.now t.terms.now };
+
+    #[tactic(auto, using(lv_eval::proofs::TermLaws::as_many_values))]
+    fn count(&self) -> usize {
+        self.terms.len()
+    }
+
+    #[tactic(auto, using(lv_eval::proofs::TermLaws::as_many_values, lv_eval::proofs::TermLaws::value_at))]
+    fn at(&self, i: usize) -> u32 {
+        element_of(&self.terms[i], self.structure, self.values)
+    }
+}
+
 /// Where the relation has the terms. The error is want of memory.
 fn atom_row(
     alloc: Global,
@@ -192,24 +215,22 @@ fn atom_row(
 {
     let mut row = Vec::new(alloc);
     for m in states {
-        let holds = has_terms(alloc, sym, terms, m, values)?;
+        let holds = has_terms(sym, terms, m, values);
         row.push(holds)?;
     }
     Ok(List::from_vec(row))
 }
 
-/// Whether the relation has the terms. The error is want of memory.
-fn has_terms(
-    alloc: Global,
-    sym: Sym,
-    terms: &[Term],
-    m: &Structure,
-    values: &[u32],
-) -> Result<bool, Memory>
-    ensures { IfOk result (λ b. b ≡ has_terms sym terms.now values.now (meaning m.now)) }
+/// Whether the relation has the terms.
+fn has_terms(sym: Sym, terms: &[Term], m: &Structure, values: &[u32]) -> bool
+    ensures { result ≡ has_terms sym terms.now values.now (meaning m.now) }
 {
-    let tuple = tuple_of(alloc, terms, m, values)?;
-    Ok(m.holds(sym, tuple.as_slice()))
+    let tuple = TermElements {
+        terms,
+        structure: m,
+        values,
+    };
+    m.has(sym, &tuple)
 }
 
 /// Where the two terms are one element. The error is want of memory.
@@ -227,22 +248,6 @@ fn same_row(
         row.push(element_of(a, m, values) == element_of(b, m, values))?;
     }
     Ok(List::from_vec(row))
-}
-
-/// The elements of the terms. The error is want of memory.
-fn tuple_of(
-    alloc: Global,
-    terms: &[Term],
-    m: &Structure,
-    values: &[u32],
-) -> Result<List<u32>, Memory>
-    ensures { IfOk result (λ tuple. tuple ≡ values_of (plain (meaning m.now)) values.now terms.now) }
-{
-    let mut tuple = Vec::new(alloc);
-    for term in terms {
-        tuple.push(element_of(term, m, values))?;
-    }
-    Ok(List::from_vec(tuple))
 }
 
 /// The element of the term. A witness counts as element 0, and so does a variable without a value.

@@ -11,7 +11,7 @@ loop-m-preserved c =
     let f = has_terms c.args.sym c.args.terms.now c.args.values.now in
     let below : i < length states = omega (arith, c.loop-m-test.true) in
     let rest = map f (map meaning (drop (i + 1) states)) in
-    row_step_made c.loop-m.row.items c.push.new.self.items c.in_ok-holds.holds (map f (map meaning (drop i states))) rest (map f (map meaning states))
+    row_step_made c.loop-m.row.items c.push.new.self.items c.has_terms-holds.result (map f (map meaning (drop i states))) rest (map f (map meaning states))
     c.in_ok-push.ensures.items
-    (mapped_step f states i c.m-item.result below c.m-item.is ∙ ap (λ b. b ∷ rest) (sym c.in_ok-holds.ensures))
+    (mapped_step f states i c.m-item.result below c.m-item.is ∙ ap (λ b. b ∷ rest) (sym c.has_terms-holds.ensures))
     c.loop-m.invariant
