@@ -76,7 +76,7 @@ sizes_again p end k (n ∷ ns) (u ∷ us) more some (sizes h hs) =
 -- ---- tuples
 
 module _ (ranges : List ℕ) (few : All (λ n. n ≤ 256) ranges) (sorts : List SortId) where
-  elements_again : (ss : List SortId) (es : List ℕ) (ts : List Tree) → All (λ n. n ≤ 256) es → IsInRange ranges ss es → Each (λ n a. IsWord (decimal n) a) es ts → (length ts ≡ length ss) × (each_element ranges ss ts ≡ Ok es)
+  pub elements_again : (ss : List SortId) (es : List ℕ) (ts : List Tree) → All (λ n. n ≤ 256) es → IsInRange ranges ss es → Each (λ n a. IsWord (decimal n) a) es ts → (length ts ≡ length ss) × (each_element ranges ss ts ≡ Ok es)
   unfolding each_element
   elements_again [] [] [] small inside is = (refl, refl)
   elements_again [] [] (t ∷ ts) small inside is = elim is [ ]

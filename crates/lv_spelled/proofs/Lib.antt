@@ -1,5 +1,8 @@
+pub mod Actions
 pub mod Again
 pub mod Entries
+pub mod LassoRead
+pub mod LassoSpelled
 pub mod Read
 pub mod Spelled
 pub mod Symbols

@@ -29,7 +29,7 @@ use Rattle.lv_spelled.proofs.Entries.{IsOf, element_is_value, element_of_it, tup
 use Rattle.lv_spelled.proofs.Read.{empty_of, entries_read}
 use Rattle.lv_spelled.proofs.Symbols.{IsNamed, order_distinct, order_named}
 
-few_sizes : (p : Parts) (k : ℕ) (ns : List ℕ) (us : List Tree) → AreSizes p k ns us → All (λ n. n ≤ 256) ns
+pub few_sizes : (p : Parts) (k : ℕ) (ns : List ℕ) (us : List Tree) → AreSizes p k ns us → All (λ n. n ≤ 256) ns
 few_sizes p k [] us h = All-nil (λ n. n ≤ 256)
 few_sizes p k (n ∷ ns) [] h = elim h [ ]
 few_sizes p k (n ∷ ns) (u ∷ us) (sizes h hs) = All-cons (λ n. n ≤ 256) n ns h.few (few_sizes p _ ns us hs)

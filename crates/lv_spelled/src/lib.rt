@@ -1,4 +1,4 @@
-//! Trees that spell structures, and what is read of them.
+//! Trees that spell structures or lassos, and what is read of them.
 #![tactic(auto)]
 
 pub mod laws;
