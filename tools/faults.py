@@ -46,6 +46,7 @@ def runs(program):
         "prove wrong_unfair_scheduler, a countermodel": (["prove"], example("wrong_unfair_scheduler")),
         "check the countermodel of wrong_unfair_scheduler": (["check"], check(program, "wrong_unfair_scheduler")),
         "prove failure_detector": (["prove"], example("failure_detector")),
+        "make 2": (["make", "2"], b""),
         "show a text that is refused": (["show"], b"(system a (property p))\n"),
         "words that are no command": (["twice"], b""),
     }

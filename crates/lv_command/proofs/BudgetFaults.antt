@@ -1,17 +1,14 @@
--- When the words behind `prove` are taken: where no step of their parse fails. And what a budget that is taken is.
+-- When the words behind `prove` are taken: where no step of their parse fails.
 use Rattle.std.proofs.Common.{is_some, ◌==◌, ◌≡◌, ℕ, zero, suc, Bool, true, false, not, ◌&&◌, ◌||◌, List, [], ◌∷◌, length, Option, Some, None, if◌then◌else◌, codes, refl, arith}
 use Rattle.std.specs.Prelude.{pos, slice_get}
 use Rattle.std.specs.Option.{option_map_or}
 use Rattle.std.specs.Str.{bytes_eq, chars}
-use Rattle.std.specs.Str.Parse.{IsNumeral, starts_with_minus, without_leading_plus}
 use Rattle.std.proofs.lemmas.Bool.{ne_eqb}
-use Rattle.std.proofs.lemmas.Int.{ints}
 use Rattle.clap.specs.Faults.{bundle_fault, bundle_step_fault, flag_word_fault, flags_fault, level_fault, long_fault, option_fault, other_fault, react_fault, settle_fault, step_fault, turn_fault, use_fault, walk_fault, word_fault}
 use Rattle.clap.specs.Kinds.{Kinds, or_else}
 use Rattle.clap.specs.Lexer.{long_of, short_of}
 use Rattle.clap.specs.Simple.{Shape, filled_from, new_shape}
 use Rattle.clap.specs.Takes.{bundle_passes, bundle_step_passes, flag_word_passes, flags_pass, level_passes, long_passes, option_passes, other_passes, react_passes, settle_passes, step_passes, turn_passes, use_passes, walk_passes}
-use Rattle.clap.specs.Values.{IsSignedIn}
 use Rattle.clap.specs.ValueTests.{accepts}
 use Rattle.clap.specs.Walk.{Held, Row, Rule, Step, Text, Walk, has_row, nothing_held, settled, subcommand_met, walk, walk_from, walked, word_met}
 use Rattle.clap.specs.Walk.{next, subcommand, trailing, value}
@@ -19,8 +16,7 @@ use Rattle.clap.specs.declared.builder.action.ArgAction.TheVariants.{Set}
 use Rattle.clap.specs.declared.builder.value_parser.ValueParser.TheVariants as parsers
 use Rattle.clap.specs.declared.error.kind.ErrorKind.{ErrorKind}
 use Rattle.clap.specs.declared.error.kind.ErrorKind.TheVariants as kind
-use Rattle.clap.proofs.ValueTestLemmas.{accepts-Accepts}
-use Rattle.lv_command.specs.Commands.{IsBudget, budget_rule}
+use Rattle.lv_command.specs.Commands.{budget_rule}
 
 -- the option, with what it left out
 abbrev pub the_rules : List Rule
@@ -63,12 +59,12 @@ and_true false b e f = e
 
 -- ---- one use of the option
 
-taken_value : (seen good : Bool) (again wrong : ErrorKind) → or_else (if seen && true then again ∷ [] else []) (or_else (if good then [] else wrong ∷ []) []) ≡ [] → ((not seen || false) && (good && true)) ≡ true
+pub taken_value : (seen good : Bool) (again wrong : ErrorKind) → or_else (if seen && true then again ∷ [] else []) (or_else (if good then [] else wrong ∷ []) []) ≡ [] → ((not seen || false) && (good && true)) ≡ true
 taken_value true good again wrong e = cc
 taken_value false true again wrong e = refl
 taken_value false false again wrong e = cc
 
-too_many : (none one : Bool) (wanting wrong : ErrorKind) (rest : Kinds) → one ≡ false → or_else (if true && none then wanting ∷ [] else (if one then [] else wrong ∷ [])) rest ≡ [] → ⊥
+pub too_many : (none one : Bool) (wanting wrong : ErrorKind) (rest : Kinds) → one ≡ false → or_else (if true && none then wanting ∷ [] else (if one then [] else wrong ∷ [])) rest ≡ [] → ⊥
 too_many true one wanting wrong rest is e = cc
 too_many false true wanting wrong rest is e = cc
 too_many false false wanting wrong rest is e = cc
@@ -159,22 +155,3 @@ prove_level words e =
     let first = both_empty (walk_fault prove_leaf [] (walk_from nothing_held) words) _ e in
     let second = both_empty (settle_fault the_rules false end) _ first.1 in
     and_true _ _ (walk_steps (walk_from nothing_held) words first.0) (and_true _ _ (held_settles end second.0) refl)
-
--- ---- the numbers
-
-abbrev IsTaken : List ℕ → Type 0
-IsTaken text = accepts false (parsers.Signed (pos 1) (pos 1000000)) text ≡ true
-
-in_range : (text : List ℕ) (minus : Bool) → starts_with_minus text ≡ minus → IsSignedIn (pos 1) (pos 1000000) text → IsBudget text
-in_range text true is h =
-    let low = rw is at h.2 in
-    absurd (omega (arith, ints))
-in_range text false is h =
-    let low = rw is at h.2 in
-    let high = rw is at h.3 in
-    let digits : IsNumeral 10 (without_leading_plus text) = rw is at h.0 in
-    record { digits = digits; least = omega (arith, ints); most = omega (arith, ints) }
-
--- a text that the option takes is a budget
-pub taken_is_budget : (text : List ℕ) → IsTaken text → IsBudget text
-taken_is_budget text e = in_range text (starts_with_minus text) refl (accepts-Accepts false (parsers.Signed (pos 1) (pos 1000000)) text e)

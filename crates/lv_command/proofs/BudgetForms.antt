@@ -1,44 +1,17 @@
 -- What the command reads where a budget stands behind `prove`.
-use Rattle.std.proofs.Common.{◌≡◌, inl, inr, ℕ, Bool, true, false, ◌&&◌, ◌==◌, List, [], ◌∷◌, ◌++◌, Some, None, codes, if◌then◌else◌, refl, sym, subst, ap, ◌∙◌, arith}
-use Rattle.std.specs.Prelude.{pos, fold, option_and_then, unwrap_or}
+use Rattle.std.proofs.Common.{◌≡◌, inl, inr, ℕ, true, false, ◌&&◌, ◌==◌, List, [], ◌∷◌, ◌++◌, Some, None, codes, if◌then◌else◌, refl, sym, subst, ap, ◌∙◌, arith}
+use Rattle.std.specs.Prelude.{fold, option_and_then, unwrap_or}
 use Rattle.std.specs.Option.{option_map_or}
 use Rattle.std.specs.Str.{bytes_eq}
-use Rattle.std.specs.Str.Parse.{IsNumeral, starts_with_minus, without_leading_plus}
-use Rattle.std.proofs.lemmas.Bool.{eqb-true, ne_eqb}
-use Rattle.std.proofs.lemmas.Int.{ints}
-use Rattle.std.proofs.lemmas.Str.Parse.{digit_from_value}
+use Rattle.std.specs.Str.Parse.{IsNumeral, without_leading_plus}
 use Rattle.clap.specs.Lexer.{long_of, long_of_rest, short_of, short_of_rest, strip_byte}
 use Rattle.clap.specs.Takes.{level_passes, settle_passes, turn_passes, walk_passes}
-use Rattle.clap.specs.Values.{IsSignedIn}
 use Rattle.clap.specs.Walk.{Held, Text, Walk, finished, nothing_held, one_of, rows_after, walked}
 use Rattle.clap.specs.Walk.{idle}
-use Rattle.clap.specs.declared.builder.value_parser.ValueParser.TheVariants as parsers
-use Rattle.clap.proofs.ValueTestLemmas.{Accepts-accepts}
-use Rattle.lv_command.specs.Commands.{HasReadBudget, IsBudget, budget_of, number_of}
+use Rattle.lv_command.specs.Commands.{HasReadNumbers, IsBudget, budget_of, number_of}
+use Rattle.lv_command.proofs.Numbers.{minus_free, number_is_taken}
 use Rattle.lv_command.proofs.BudgetFaults.{and_true, prove_leaf, the_rules}
 use Rattle.lv_command.proofs.BudgetWords.{EndDashed, IsTaken, Spell, asks, dashes, given_rows, held_with, walk_at}
-
--- ---- a budget as a text
-
-minus_free : (text : Text) → IsNumeral 10 (without_leading_plus text) → starts_with_minus text ≡ false
-minus_free [] h = absurd (omega (arith, h.0))
-minus_free (d ∷ ds) h = go (d == 45) refl h
-  where
-    go : (b : Bool) → (d == 45) ≡ b → IsNumeral 10 (without_leading_plus (d ∷ ds)) → b ≡ false
-    go false is n = refl
-    go true is n =
-        let same : d ≡ 45 = eqb-true d 45 is in
-        let plus : (d == 43) ≡ false = ne_eqb d 43 (λ e. omega (arith, e, same)) in
-        let digits : IsNumeral 10 (d ∷ ds) = rw plus at n in
-        absurd (omega (arith, digit_from_value d digits.1.0, same))
-
-pub budget_is_taken : (text : Text) → IsBudget text → IsTaken text
-budget_is_taken text b =
-    let none = minus_free text b.digits in
-    let least = b.least in
-    let most = b.most in
-    let signed : IsSignedIn (pos 1) (pos 1000000) text = rw none (b.digits, omega (arith, ints, least, most), omega (arith, ints, least, most), omega (arith, ints, least, most)) in
-    Accepts-accepts false (parsers.Signed (pos 1) (pos 1000000)) text signed
 
 -- ---- from one word to the next
 
@@ -122,19 +95,19 @@ read_text (d ∷ ds) b = ap (λ x. Some (unwrap_or (if x then Some ds else None)
 pub record Says (words : List Text) (budget : ℕ) : Type 0 where
   pub level : Level words
   pub is : budget_of (rows_after the_rules [] words) ≡ budget
-  pub read : HasReadBudget (rows_after the_rules [] words)
+  pub read : HasReadNumbers (rows_after the_rules [] words)
 
 pub says_usual : (words : List Text) → EndDashed words → Says words 100000
 says_usual words end =
     let it = unspelled words end in
-    record { level = it.0; is = ap budget_of it.1; read = subst HasReadBudget (sym it.1) (λ text e. cc) }
+    record { level = it.0; is = ap budget_of it.1; read = subst HasReadNumbers (sym it.1) ((λ text e. cc), (λ text e. cc)) }
 
 pub says_budget : (text : Text) (rest words : List Text) → IsBudget text → EndDashed rest → Spell text rest words → Says words (number_of text)
 says_budget text rest words budget end is =
-    let it = spelled text rest words budget (budget_is_taken text budget) end is in
+    let it = spelled text rest words budget (number_is_taken 1 1000000 text (omega arith) budget) end is in
     let one = read_text text budget in
     record {
       level = it.0;
       is = ap budget_of it.1 ∙ ap (λ o. option_map_or number_of o 100000) one;
-      read = subst HasReadBudget (sym it.1) (λ other e. let same : text ≡ other = cc in subst IsBudget same budget);
+      read = subst HasReadNumbers (sym it.1) ((λ other e. let same : text ≡ other = cc in subst IsBudget same budget), (λ other e. cc));
     }

@@ -13,6 +13,7 @@ use Rattle.clap.specs.Walk.{Held, Outcome, Row, Rule, Step, Text, Waiting, Walk,
 use Rattle.clap.specs.Walk.{idle, option, plain, trailing}
 use Rattle.clap.specs.declared.builder.value_parser.ValueParser.TheVariants as parsers
 use Rattle.clap.proofs.WalkLemmas.{both}
+use Rattle.lv_command.proofs.Numbers.{IsTakenIn}
 use Rattle.lv_command.proofs.BudgetFaults.{prove_leaf, the_rule, the_rules}
 
 abbrev pub dashes : Text
@@ -253,7 +254,7 @@ no_more (word ∷ rest) rows is e = elim (idle_turn word rows None rest e) [
 
 -- the number is one that the option takes
 abbrev pub IsTaken : Text → Type 0
-IsTaken text = accepts false (parsers.Signed (pos 1) (pos 1000000)) text ≡ true
+IsTaken = IsTakenIn 1 1000000
 
 taken_value : (text : Text) → use_passes false the_rule (text ∷ []) [] ≡ true → IsTaken text
 taken_value text e = let parts : (accepts false (parsers.Signed (pos 1) (pos 1000000)) text && true) ≡ true = e in (both _ _ parts).0

@@ -1,6 +1,6 @@
 -- When the command takes its words: where no step of the parse fails.
-use Rattle.std.proofs.Common.{arith, ◌≡◌, ℕ, zero, suc, Bool, true, false, not, ◌&&◌, ◌||◌, List, [], ◌∷◌, length, Option, Some, None, if◌then◌else◌, option_and_then, codes, refl, sym, ap, ◌∙◌, is_some}
-use Rattle.std.specs.Prelude.{slice_get, Ok, Err, Result, unwrap_or}
+use Rattle.std.proofs.Common.{arith, ◌≡◌, ◌<◌, ◌^◌, ℕ, zero, suc, Bool, true, false, not, ◌&&◌, ◌||◌, List, [], ◌∷◌, length, Option, Some, None, if◌then◌else◌, option_and_then, codes, refl, sym, ap, ◌∙◌, is_some}
+use Rattle.std.specs.Prelude.{slice_get, Ok, Err, Result, option_map, unwrap_or}
 use Rattle.std.specs.Option.{option_map_or}
 use Rattle.std.specs.Str.{chars, bytes_eq}
 use Rattle.std.specs.Str.Parse.{ParsesUnsigned}
@@ -20,7 +20,8 @@ use Rattle.clap.specs.declared.parser.matches.Found.{Found}
 use Rattle.clap.proofs.OnLiterals.{clap_on_literals}
 use Rattle.clap.proofs.WalkLemmas.{one_text-rows}
 use Rattle.lv_command.specs.declared.mode.Mode.{Mode}
-use Rattle.lv_command.specs.Commands.{HasReadBudget, IsBudget, NamesEachMode, budget_of, mode_named, mode_of, number_of, the_command}
+use Rattle.lv_command.specs.Commands.{HasReadBudget, HasReadPlaces, IsNumberIn, NamesEachMode, budget_of, mode_named, mode_of, number_of, places_of, the_command}
+use Rattle.lv_command.proofs.PlacesFaults.{make_leaf, make_level}
 use Rattle.lv_command.proofs.BudgetFaults.{and_true, both_empty, or_right, prove_leaf, prove_level, unless}
 
 -- the command without arguments, and without help by words
@@ -120,25 +121,29 @@ leaf name = record (new_shape name) {
   is_built = true;
 }
 
-abbrev found : Bool → Bool → Bool → Bool → Option Shape
-found proves shows checks replays =
+abbrev found : Bool → Bool → Bool → Bool → Bool → Option Shape
+found proves shows checks replays makes =
     if proves then Some prove_leaf
     else (if shows then Some (leaf (codes "show"))
     else (if checks then Some (leaf (codes "check"))
-    else (if replays then Some (leaf (codes "replay")) else None)))
+    else (if replays then Some (leaf (codes "replay"))
+    else (if makes then Some make_leaf else None))))
 
-found_step : (proves shows checks replays : Bool) (words : List Text)
-    → option_map_or (λ s. level_fault s [] nothing_held words false []) (found proves shows checks replays) [] ≡ []
-    → option_map_or (λ s. level_passes s [] nothing_held words false) (found proves shows checks replays) true ≡ true
-found_step true shows checks replays words e = prove_level words e
-found_step false true checks replays words e = (level_step (leaf (codes "show")) [] nothing_held words false [] e).0
-found_step false false true replays words e = (level_step (leaf (codes "check")) [] nothing_held words false [] e).0
-found_step false false false true words e = (level_step (leaf (codes "replay")) [] nothing_held words false [] e).0
-found_step false false false false words e = refl
+found_step : (proves shows checks replays makes : Bool) (words : List Text)
+    → option_map_or (λ s. level_fault s [] nothing_held words false []) (found proves shows checks replays makes) [] ≡ []
+    → option_map_or (λ s. level_passes s [] nothing_held words false) (found proves shows checks replays makes) true ≡ true
+found_step true shows checks replays makes words e = prove_level words e
+found_step false true checks replays makes words e = (level_step (leaf (codes "show")) [] nothing_held words false [] e).0
+found_step false false true replays makes words e = (level_step (leaf (codes "check")) [] nothing_held words false [] e).0
+found_step false false false true makes words e = (level_step (leaf (codes "replay")) [] nothing_held words false [] e).0
+found_step false false false false true words e = make_level words e
+found_step false false false false false words e = refl
 
 entered_step : (stop : Option (Text × List Text)) → entered_fault (built the_command) stop ≡ [] → entered_passes (built the_command) stop ≡ true
 entered_step None e = refl
-entered_step (Some p) e = found_step (answers_to p.0 (codes "prove", [])) (answers_to p.0 (codes "show", [])) (answers_to p.0 (codes "check", [])) (answers_to p.0 (codes "replay", [])) p.1 e
+entered_step (Some p) e =
+    found_step (answers_to p.0 (codes "prove", [])) (answers_to p.0 (codes "show", [])) (answers_to p.0 (codes "check", [])) (answers_to p.0 (codes "replay", []))
+    (answers_to p.0 (codes "make", [])) p.1 e
 
 simple : is_simple the_command ≡ true
 simple = refl
@@ -185,24 +190,41 @@ mode_at_err a words e is passes other = none_unless (takes the_command words) _ 
 
 pub names_each_mode : NamesEachMode
 unfolding mode_of clap_on_literals
-names_each_mode = (refl, refl, refl, refl, refl, refl, refl, refl, refl)
+names_each_mode = (refl, refl, refl, refl, refl, refl, refl, refl, refl, refl, refl, refl, refl, refl)
 
--- ---- the budget that was read
+-- ---- the numbers that were read
 
-read_number : (E : Type 0) (G : List ℕ → Result ℕ E → Type 0) (text : Text) (r : Option ℕ) → ReadsOne G text r → ((u : List ℕ) (x : Result ℕ E) → G u x → ParsesUnsigned 32 10 u x) → IsBudget text
-    → r ≡ Some (number_of text)
-read_number E G text (Some n) reads only budget = ap Some (only text (Ok n) reads).1
-read_number E G text None reads only budget = let most = budget.most in absurd (only text (Err reads.0) reads.1 (budget.digits, omega (arith, most)))
+read_number : (E : Type 0) (G : List ℕ → Result ℕ E → Type 0) (low high : ℕ) (text : Text) (r : Option ℕ) → high < 2 ^ 32 → ReadsOne G text r → ((u : List ℕ) (x : Result ℕ E) → G u x → ParsesUnsigned 32 10 u x)
+    → IsNumberIn low high text → r ≡ Some (number_of text)
+read_number E G low high text (Some n) small reads only number = ap Some (only text (Ok n) reads).1
+read_number E G low high text None small reads only number = let most = number.most in absurd (only text (Err reads.0) reads.1 (number.digits, omega (arith, most, small)))
 
-budget_read_as : (E : Type 0) (G : List ℕ → Result ℕ E → Type 0) (o : Option Text) (r : Option ℕ)
+-- the number of the text that was found, where one was
+number_read_as : (E : Type 0) (G : List ℕ → Result ℕ E → Type 0) (low high : ℕ) (o : Option Text) (r : Option ℕ) → high < 2 ^ 32
     → (o ≡ None → r ≡ None) → ((text : Text) → o ≡ Some text → ReadsOne G text r) → ((u : List ℕ) (x : Result ℕ E) → G u x → ParsesUnsigned 32 10 u x)
-    → ((text : Text) → o ≡ Some text → IsBudget text) → unwrap_or r 100000 ≡ option_map_or number_of o 100000
-budget_read_as E G None r none some only budgets = ap (λ x. unwrap_or x 100000) (none refl)
-budget_read_as E G (Some text) r none some only budgets = ap (λ x. unwrap_or x 100000) (read_number E G text r (some text refl) only (budgets text refl))
+    → ((text : Text) → o ≡ Some text → IsNumberIn low high text) → r ≡ option_map number_of o
+number_read_as E G low high None r small none some only numbers = none refl
+number_read_as E G low high (Some text) r small none some only numbers = read_number E G low high text r small (some text refl) only (numbers text refl)
+
+number_read : (E : Type 0) (G : List ℕ → Result ℕ E → Type 0) (low high : ℕ) (f : Found) (id name : Text) (r : Option ℕ) → high < 2 ^ 32 → id ≡ name
+    → (one_text f id ≡ None → r ≡ None) → ((text : Text) → one_text f id ≡ Some text → ReadsOne G text r)
+    → ((u : List ℕ) (x : Result ℕ E) → G u x → ParsesUnsigned 32 10 u x) → ((text : Text) → one_of name (rows_of f) ≡ Some text → IsNumberIn low high text)
+    → r ≡ option_map number_of (one_of name (rows_of f))
+number_read E G low high f id name r small is none some only numbers =
+    let same : one_text f id ≡ one_of name (rows_of f) = one_text-rows f id ∙ ap (λ x. one_of x (rows_of f)) is in
+    number_read_as E G low high (one_of name (rows_of f)) r small (λ e. none (same ∙ e)) (λ text e. some text (same ∙ e)) only numbers
+
+or_usual : (o : Option Text) → unwrap_or (option_map number_of o) 100000 ≡ option_map_or number_of o 100000
+or_usual None = refl
+or_usual (Some text) = refl
 
 pub budget_read : (E : Type 0) (G : List ℕ → Result ℕ E → Type 0) (f : Found) (id : Text) (r : Option ℕ) → id ≡ codes "budget"
     → (one_text f id ≡ None → r ≡ None) → ((text : Text) → one_text f id ≡ Some text → ReadsOne G text r)
     → ((u : List ℕ) (x : Result ℕ E) → G u x → ParsesUnsigned 32 10 u x) → HasReadBudget (rows_of f) → unwrap_or r 100000 ≡ budget_of (rows_of f)
 budget_read E G f id r is none some only budgets =
-    let same : one_text f id ≡ one_of (codes "budget") (rows_of f) = one_text-rows f id ∙ ap (λ x. one_of x (rows_of f)) is in
-    budget_read_as E G (one_of (codes "budget") (rows_of f)) r (λ e. none (same ∙ e)) (λ text e. some text (same ∙ e)) only budgets
+    ap (λ x. unwrap_or x 100000) (number_read E G 1 1000000 f id (codes "budget") r (omega arith) is none some only budgets) ∙ or_usual (one_of (codes "budget") (rows_of f))
+
+pub places_read : (E : Type 0) (G : List ℕ → Result ℕ E → Type 0) (f : Found) (id : Text) (r : Option ℕ) → id ≡ codes "places"
+    → (one_text f id ≡ None → r ≡ None) → ((text : Text) → one_text f id ≡ Some text → ReadsOne G text r)
+    → ((u : List ℕ) (x : Result ℕ E) → G u x → ParsesUnsigned 32 10 u x) → HasReadPlaces (rows_of f) → r ≡ places_of (rows_of f)
+places_read E G f id r is none some only sizes = number_read E G 2 16 f id (codes "places") r (omega arith) is none some only sizes

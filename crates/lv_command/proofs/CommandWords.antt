@@ -12,11 +12,16 @@ use Rattle.clap.specs.declared.parser.matches.ArgMatches.{ArgMatches}
 use Rattle.clap.proofs.OnLiterals.{clap_on_literals}
 use Rattle.clap.proofs.WalkLemmas.{both}
 use Rattle.lv_command.specs.declared.mode.Mode.{Mode}
-use Rattle.lv_command.specs.declared.mode.Mode.TheVariants.{Check, Prove, Replay, Show}
-use Rattle.lv_command.specs.Commands.{AsksByName, AsksToProve, AsksWhereTaken, EndIn, GiveBudget, HasReadBudget, IsInRange, mode_named, mode_of, number_of, the_command}
-use Rattle.lv_command.proofs.BudgetFaults.{and_true, prove_leaf, taken_is_budget, the_rules}
+use Rattle.lv_command.specs.declared.mode.Mode.TheVariants.{Make, OnText}
+use Rattle.lv_command.specs.declared.mode.TextMode.TheVariants.{Check, Prove, Replay, Show}
+use Rattle.lv_command.specs.Commands.{AsksByName, AsksToMake, AsksToProve, AsksWhereTaken, EndIn, GiveBudget, GivePlaces, HasReadNumbers, IsInRange, mode_named, mode_of, number_of, the_command}
+use Rattle.lv_command.proofs.BudgetFaults.{and_true, prove_leaf, the_rules}
 use Rattle.lv_command.proofs.BudgetForms.{Says, says_budget, says_usual}
 use Rattle.lv_command.proofs.BudgetWords.{Behind, EndDashed, Spell, behind_prove, dashes, same_text}
+use Rattle.lv_command.proofs.Numbers.{taken_is_number}
+use Rattle.lv_command.proofs.PlacesFaults.{the_rules as size_rules}
+use Rattle.lv_command.proofs.PlacesWords.{leveled_behind, says_places}
+use Rattle.lv_command.proofs.PlacesWords as size_words
 use Rattle.lv_command.proofs.CommandLemmas.{IsReadBy, bare, leaf}
 
 -- ---- a word that is neither `--` nor the name of a subcommand
@@ -143,6 +148,22 @@ read_prove : (rest : List Text) → subcommand_of the_command (codes "prove" ∷
 unfolding walked
 read_prove rest = ap entered_at (stopped_walk (codes "prove") [] rest)
 
+-- those behind `make`
+
+makes : (rest : List Text) → takes the_command (codes "make" ∷ rest) ≡ true → size_words.Level rest
+unfolding walked
+makes rest e = subst (λ (w : Walk). entered_passes (built the_command) w.stopped ≡ true) (stopped_walk (codes "make") [] rest) (both _ _ e).0
+
+taken_make : (rest : List Text) → size_words.Level rest → takes the_command (codes "make" ∷ rest) ≡ true
+unfolding walk_passes walked
+taken_make rest level =
+    subst (λ (w : Walk). Takes w (walk_passes (built the_command).top the_names (stopped_with (codes "make") []) rest) ≡ true) (sym (stopped_walk (codes "make") [] rest))
+    (and_true _ _ level (and_true _ _ (stopped_passes (codes "make") [] rest) refl))
+
+read_make : (rest : List Text) → subcommand_of the_command (codes "make" ∷ rest) ≡ Some (codes "make", rows_after size_rules [] rest)
+unfolding walked
+read_make rest = ap entered_at (stopped_walk (codes "make") [] rest)
+
 -- and those behind a name that takes nothing
 
 shows : (rest : List Text) → takes the_command (codes "show" ∷ rest) ≡ true → EndDashed rest
@@ -190,57 +211,77 @@ pub record AreRead (words : List Text) (mode : Mode) (met : Text × List Row) : 
   pub taken : takes the_command words ≡ true
   pub rows : subcommand_of the_command words ≡ Some met
   pub named : mode_named met ≡ Some mode
-  pub read : HasReadBudget met.1
+  pub read : HasReadNumbers met.1
 
 -- the words ask for the mode by its laws
 abbrev Ask : Mode → List Text → Type 0
-Ask (Prove budget) words = ((budget ≡ 100000) × EndIn (codes "prove" ∷ []) words) ⊎ GiveBudget budget words
-Ask Show words = EndIn (codes "show" ∷ []) words
-Ask Check words = EndIn (codes "check" ∷ []) words
-Ask Replay words = EndIn (codes "replay" ∷ []) words
+Ask (OnText (Prove budget)) words = ((budget ≡ 100000) × EndIn (codes "prove" ∷ []) words) ⊎ GiveBudget budget words
+Ask (OnText Show) words = EndIn (codes "show" ∷ []) words
+Ask (OnText Check) words = EndIn (codes "check" ∷ []) words
+Ask (OnText Replay) words = EndIn (codes "replay" ∷ []) words
+Ask (Make places) words = GivePlaces places words
 
-reads_proving : (rest : List Text) (budget : ℕ) → Says rest budget → AreRead (codes "prove" ∷ rest) (Prove budget) (codes "prove", rows_after the_rules [] rest)
+reads_proving : (rest : List Text) (budget : ℕ) → Says rest budget → AreRead (codes "prove" ∷ rest) (OnText (Prove budget)) (codes "prove", rows_after the_rules [] rest)
 reads_proving rest budget says = record {
   taken = taken_prove rest says.level;
   rows = read_prove rest;
-  named = ap (λ n. Some (Prove n)) says.is;
+  named = ap (λ n. Some (OnText (Prove n))) says.is;
   read = says.read;
 }
 
 reads_name : (mode : Mode) (name : Text) (words : List Text) → AreForms name → mode_named (name, []) ≡ Some mode → EndIn (name ∷ []) words → AreRead words mode (name, [])
-reads_name mode name words forms named (inl is) = subst (λ (ws : List Text). AreRead ws mode (name, [])) (sym is) (record { taken = forms.0; rows = forms.2; named = named; read = λ text e. cc })
-reads_name mode name words forms named (inr is) = subst (λ (ws : List Text). AreRead ws mode (name, [])) (sym is) (record { taken = forms.1; rows = forms.3; named = named; read = λ text e. cc })
+reads_name mode name words forms named (inl is) = subst (λ (ws : List Text). AreRead ws mode (name, [])) (sym is) (record { taken = forms.0; rows = forms.2; named = named; read = ((λ text e. cc), (λ text e. cc)) })
+reads_name mode name words forms named (inr is) = subst (λ (ws : List Text). AreRead ws mode (name, [])) (sym is) (record { taken = forms.1; rows = forms.3; named = named; read = ((λ text e. cc), (λ text e. cc)) })
 
 abbrev Reads : Mode → List Text → Type 0
 Reads mode words = (met : Text × List Row) × AreRead words mode met
 
-behind_name : (words rest : List Text) (budget : ℕ) → words ≡ codes "prove" ∷ rest → Says rest budget → Reads (Prove budget) words
-behind_name words rest budget is says = subst (Reads (Prove budget)) (sym is) ((codes "prove", rows_after the_rules [] rest), reads_proving rest budget says)
+behind_name : (words rest : List Text) (budget : ℕ) → words ≡ codes "prove" ∷ rest → Says rest budget → Reads (OnText (Prove budget)) words
+behind_name words rest budget is says = subst (Reads (OnText (Prove budget))) (sym is) ((codes "prove", rows_after the_rules [] rest), reads_proving rest budget says)
 
-usual : (words : List Text) → EndIn (codes "prove" ∷ []) words → Reads (Prove 100000) words
+usual : (words : List Text) → EndIn (codes "prove" ∷ []) words → Reads (OnText (Prove 100000)) words
 usual words (inl is) = behind_name words [] 100000 is (says_usual [] (inl refl))
 usual words (inr is) = behind_name words (dashes ∷ []) 100000 is (says_usual (dashes ∷ []) (inr refl))
 
-given : (budget : ℕ) (words : List Text) → GiveBudget budget words → Reads (Prove budget) words
-given budget words g = subst (λ (n : ℕ). Reads (Prove n) words) (sym g.is) (elim g.spelled [
+given : (budget : ℕ) (words : List Text) → GiveBudget budget words → Reads (OnText (Prove budget)) words
+given budget words g = subst (λ (n : ℕ). Reads (OnText (Prove n)) words) (sym g.is) (elim g.spelled [
   | inl (inl is) ↦ behind_name words _ _ is (says_budget g.text [] _ g.is_budget (inl refl) (inl refl))
   | inl (inr is) ↦ behind_name words _ _ is (says_budget g.text (dashes ∷ []) _ g.is_budget (inr refl) (inl refl))
   | inr (inl is) ↦ behind_name words _ _ is (says_budget g.text [] _ g.is_budget (inl refl) (inr refl))
   | inr (inr is) ↦ behind_name words _ _ is (says_budget g.text (dashes ∷ []) _ g.is_budget (inr refl) (inr refl))
 ])
 
+made : (places : ℕ) (words rest : List Text) → words ≡ codes "make" ∷ rest → size_words.Says rest places → Reads (Make places) words
+made places words rest is says = subst (Reads (Make places)) (sym is) (
+  (codes "make", rows_after size_rules [] rest),
+  record {
+    taken = taken_make rest says.level;
+    rows = read_make rest;
+    named = ap (option_map Make) says.is;
+    read = says.read;
+  },
+)
+
+sized : (places : ℕ) (words : List Text) → GivePlaces places words → Reads (Make places) words
+sized places words g = subst (λ (n : ℕ). Reads (Make n) words) (sym g.is) (elim g.spelled [
+  | inl (inl is) ↦ made _ words _ is (says_places g.text _ g.is_size (inl (inl refl)))
+  | inl (inr is) ↦ made _ words _ is (says_places g.text _ g.is_size (inl (inr refl)))
+  | inr is ↦ made _ words _ is (says_places g.text _ g.is_size (inr refl))
+])
+
 reads : (mode : Mode) (words : List Text) → Ask mode words → Reads mode words
-reads (Prove budget) words (inl usually) = subst (λ (n : ℕ). Reads (Prove n) words) (sym usually.0) (usual words usually.1)
-reads (Prove budget) words (inr budgeted) = given budget words budgeted
-reads Show words ask = ((codes "show", []), reads_name Show (codes "show") words show_forms refl ask)
-reads Check words ask = ((codes "check", []), reads_name Check (codes "check") words check_forms refl ask)
-reads Replay words ask = ((codes "replay", []), reads_name Replay (codes "replay") words replay_forms refl ask)
+reads (OnText (Prove budget)) words (inl usually) = subst (λ (n : ℕ). Reads (OnText (Prove n)) words) (sym usually.0) (usual words usually.1)
+reads (OnText (Prove budget)) words (inr budgeted) = given budget words budgeted
+reads (OnText Show) words ask = ((codes "show", []), reads_name (OnText Show) (codes "show") words show_forms refl ask)
+reads (OnText Check) words ask = ((codes "check", []), reads_name (OnText Check) (codes "check") words check_forms refl ask)
+reads (OnText Replay) words ask = ((codes "replay", []), reads_name (OnText Replay) (codes "replay") words replay_forms refl ask)
+reads (Make places) words ask = sized places words ask
 
 asks_behind : (words rest : List Text) → words ≡ codes "prove" ∷ rest → Behind rest → (mode : Mode) × Ask mode words
-asks_behind words rest is (inl (inl none)) = (Prove 100000, inl (refl, inl cc))
-asks_behind words rest is (inl (inr end)) = (Prove 100000, inl (refl, inr cc))
+asks_behind words rest is (inl (inl none)) = (OnText (Prove 100000), inl (refl, inl cc))
+asks_behind words rest is (inl (inr end)) = (OnText (Prove 100000), inl (refl, inr cc))
 asks_behind words rest is (inr b) =
-    (Prove (number_of b.0), inr (record { text = b.0; is_budget = taken_is_budget b.0 b.2; is = refl; spelled = in_words b.3 b.4 }))
+    (OnText (Prove (number_of b.0)), inr (record { text = b.0; is_budget = taken_is_number 1 1000000 b.0 (omega arith) b.2; is = refl; spelled = in_words b.3 b.4 }))
   where
     in_words : EndDashed b.1 → Spell b.0 b.1 rest → EndIn (codes "prove" ∷ codes "--budget" ∷ b.0 ∷ []) words ⊎ EndIn (codes "prove" ∷ (codes "--budget=" ++ b.0) ∷ []) words
     in_words (inl none) (inl spelled) = inl (inl cc)
@@ -248,15 +289,26 @@ asks_behind words rest is (inr b) =
     in_words (inl none) (inr spelled) = inr (inl cc)
     in_words (inr end) (inr spelled) = inr (inr cc)
 
-none_met : (b c d e : Bool) → b ≡ false → c ≡ false → d ≡ false → e ≡ false
+asks_places : (words rest : List Text) → words ≡ codes "make" ∷ rest → size_words.Behind rest → (mode : Mode) × Ask mode words
+asks_places words rest is b =
+    (Make (number_of b.0), record { text = b.0; is_size = taken_is_number 2 16 b.0 (omega arith) b.1; is = refl; spelled = in_words b.2 })
+  where
+    in_words : size_words.Sizes b.0 rest → EndIn (codes "make" ∷ b.0 ∷ []) words ⊎ (words ≡ codes "make" ∷ codes "--" ∷ b.0 ∷ [])
+    in_words (inl (inl alone)) = inl (inl cc)
+    in_words (inl (inr end)) = inl (inr cc)
+    in_words (inr front) = inr cc
+
+none_met : (b c d e f : Bool) → b ≡ false → c ≡ false → d ≡ false → e ≡ false → f ≡ false
     → option_map (λ (s : Text × List Text). s.0)
     (if b || false then Some (codes "prove", []) else (if c || false then Some (codes "show", [])
-    else (if d || false then Some (codes "check", []) else (if e || false then Some (codes "replay", []) else None)))) ≡ None
-none_met false false false false b c d e = refl
-none_met true c d e is js ks ls = cc
-none_met false true d e is js ks ls = cc
-none_met false false true e is js ks ls = cc
-none_met false false false true is js ks ls = cc
+    else (if d || false then Some (codes "check", []) else (if e || false then Some (codes "replay", [])
+    else (if f || false then Some (codes "make", []) else None))))) ≡ None
+none_met false false false false false b c d e f = refl
+none_met true c d e f is js ks ls ms = cc
+none_met false true d e f is js ks ls ms = cc
+none_met false false true e f is js ks ls ms = cc
+none_met false false false true f is js ks ls ms = cc
+none_met false false false false true is js ks ls ms = cc
 
 -- what the first word is
 data First (word : Text) : Type 0 where
@@ -264,14 +316,17 @@ data First (word : Text) : Type 0 where
   showing : word ≡ codes "show" → First word
   checking : word ≡ codes "check" → First word
   replaying : word ≡ codes "replay" → First word
+  making : word ≡ codes "make" → First word
   stray : subcommand_met the_names idle word ≡ None → First word
 
-first_of : (word : Text) (b c d e : Bool) → b ≡ bytes_eq (codes "prove") word → c ≡ bytes_eq (codes "show") word → d ≡ bytes_eq (codes "check") word → e ≡ bytes_eq (codes "replay") word → First word
-first_of word true c d e is js ks ls = proving (sym (same_text (codes "prove") word (sym is)))
-first_of word false true d e is js ks ls = showing (sym (same_text (codes "show") word (sym js)))
-first_of word false false true e is js ks ls = checking (sym (same_text (codes "check") word (sym ks)))
-first_of word false false false true is js ks ls = replaying (sym (same_text (codes "replay") word (sym ls)))
-first_of word false false false false is js ks ls = stray (none_met _ _ _ _ (sym is) (sym js) (sym ks) (sym ls))
+first_of : (word : Text) (b c d e f : Bool) → b ≡ bytes_eq (codes "prove") word → c ≡ bytes_eq (codes "show") word → d ≡ bytes_eq (codes "check") word
+    → e ≡ bytes_eq (codes "replay") word → f ≡ bytes_eq (codes "make") word → First word
+first_of word true c d e f is js ks ls ms = proving (sym (same_text (codes "prove") word (sym is)))
+first_of word false true d e f is js ks ls ms = showing (sym (same_text (codes "show") word (sym js)))
+first_of word false false true e f is js ks ls ms = checking (sym (same_text (codes "check") word (sym ks)))
+first_of word false false false true f is js ks ls ms = replaying (sym (same_text (codes "replay") word (sym ls)))
+first_of word false false false false true is js ks ls ms = making (sym (same_text (codes "make") word (sym ms)))
+first_of word false false false false false is js ks ls ms = stray (none_met _ _ _ _ _ (sym is) (sym js) (sym ks) (sym ls) (sym ms))
 
 nothing_untaken : takes the_command [] ≡ false
 unfolding clap_on_literals
@@ -300,6 +355,11 @@ ask_proving word rest is e =
     let level = proves rest (ap (takes the_command) (sym words) ∙ e) in
     asks_behind (word ∷ rest) rest words (behind_prove rest ((both _ _ level).0, (both _ _ (both _ _ level).1).0))
 
+ask_making : (word : Text) (rest : List Text) → word ≡ codes "make" → takes the_command (word ∷ rest) ≡ true → (mode : Mode) × Ask mode (word ∷ rest)
+ask_making word rest is e =
+    let words : word ∷ rest ≡ codes "make" ∷ rest = ap (λ w. w ∷ rest) is in
+    asks_places (word ∷ rest) rest words (leveled_behind rest (makes rest (ap (takes the_command) (sym words) ∙ e)))
+
 -- the words are the name with what may stand behind it
 ends_in : (name word : Text) (rest : List Text) → word ≡ name → (takes the_command (name ∷ rest) ≡ true → EndDashed rest) → takes the_command (word ∷ rest) ≡ true → EndIn (name ∷ []) (word ∷ rest)
 ends_in name word rest is ends e = elim (ends (ap (takes the_command) (ap (λ w. w ∷ rest) (sym is)) ∙ e)) [
@@ -310,11 +370,12 @@ ends_in name word rest is ends e = elim (ends (ap (takes the_command) (ap (λ w.
 -- the words that the command takes ask for a mode
 taken_ask : (words : List Text) → takes the_command words ≡ true → (mode : Mode) × Ask mode words
 taken_ask [] e = let untaken : false ≡ true = sym nothing_untaken ∙ e in cc
-taken_ask (word ∷ rest) e = elim (first_of word _ _ _ _ refl refl refl refl) [
+taken_ask (word ∷ rest) e = elim (first_of word _ _ _ _ _ refl refl refl refl refl) [
   | proving is ↦ ask_proving word rest is e
-  | showing is ↦ (Show, ends_in (codes "show") word rest is (shows rest) e)
-  | checking is ↦ (Check, ends_in (codes "check") word rest is (checks rest) e)
-  | replaying is ↦ (Replay, ends_in (codes "replay") word rest is (replays rest) e)
+  | showing is ↦ (OnText Show, ends_in (codes "show") word rest is (shows rest) e)
+  | checking is ↦ (OnText Check, ends_in (codes "check") word rest is (checks rest) e)
+  | replaying is ↦ (OnText Replay, ends_in (codes "replay") word rest is (replays rest) e)
+  | making is ↦ ask_making word rest is e
   | stray none ↦ absurd (unmet_refused word rest none e)
 ]
 
@@ -344,13 +405,16 @@ asked words mode e =
     subst (λ (m : Mode). Ask m words) same found.1
 
 pub asks_to_prove : AsksToProve
-asks_to_prove words budget = (asked words (Prove budget), mode_asked (Prove budget) words)
+asks_to_prove words budget = (asked words (OnText (Prove budget)), mode_asked (OnText (Prove budget)) words)
+
+pub asks_to_make : AsksToMake
+asks_to_make words places = (asked words (Make places), mode_asked (Make places) words)
 
 pub asks_by_name : AsksByName
 asks_by_name = (
-  λ words. (asked words Show, mode_asked Show words),
-  λ words. (asked words Check, mode_asked Check words),
-  λ words. (asked words Replay, mode_asked Replay words),
+  λ words. (asked words (OnText Show), mode_asked (OnText Show) words),
+  λ words. (asked words (OnText Check), mode_asked (OnText Check) words),
+  λ words. (asked words (OnText Replay), mode_asked (OnText Replay) words),
 )
 
 none_when : (b : Bool) (mode : Option Mode) → b ≡ false → (if b then mode else None) ≡ None
@@ -370,18 +434,19 @@ asks_where_taken words = (untaken_when (takes the_command words) words refl, non
 -- ---- for the code
 
 ask_in_range : (mode : Mode) (words : List Text) → Ask mode words → IsInRange mode
-ask_in_range (Prove budget) words (inl usually) = let is = usually.0 in (omega (arith, is), omega (arith, is))
-ask_in_range (Prove budget) words (inr g) = let is = g.is in let least = g.is_budget.least in let most = g.is_budget.most in (omega (arith, is, least), omega (arith, is, most))
-ask_in_range Show words ask = tt
-ask_in_range Check words ask = tt
-ask_in_range Replay words ask = tt
+ask_in_range (OnText (Prove budget)) words (inl usually) = let is = usually.0 in (omega (arith, is), omega (arith, is))
+ask_in_range (OnText (Prove budget)) words (inr g) = let is = g.is in let least = g.is_budget.least in let most = g.is_budget.most in (omega (arith, is, least), omega (arith, is, most))
+ask_in_range (OnText Show) words ask = tt
+ask_in_range (OnText Check) words ask = tt
+ask_in_range (OnText Replay) words ask = tt
+ask_in_range (Make places) words g = let is = g.is in let least = g.is_size.least in let most = g.is_size.most in (omega (arith, is, least), omega (arith, is, most))
 
 pub in_range : (o : Option Mode) (words : List Text) → o ≡ mode_of words → IfSome o IsInRange
 in_range None words is = tt
 in_range (Some mode) words is = ask_in_range mode words (asked words mode (sym is))
 
-pub has_read_budget : (words : List Text) (m : ArgMatches) → IsReadBy words m → IfSome (subcommand_rows_of m) (λ met. HasReadBudget met.1)
-has_read_budget words m read =
+pub has_read_numbers : (words : List Text) (m : ArgMatches) → IsReadBy words m → IfSome (subcommand_rows_of m) (λ met. HasReadNumbers met.1)
+has_read_numbers words m read =
     let found = taken_ask words read.taken in
     let it = reads found.0 words found.1 in
-    subst (λ (o : Option (Text × List Row)). IfSome o (λ met. HasReadBudget met.1)) (sym (read.rows ∙ it.1.rows)) it.1.read
+    subst (λ (o : Option (Text × List Row)). IfSome o (λ met. HasReadNumbers met.1)) (sym (read.rows ∙ it.1.rows)) it.1.read

@@ -9,4 +9,4 @@ pub mod laws;
 mod mode;
 
 pub use commands::mode_of;
-pub use mode::Mode;
+pub use mode::{Mode, TextMode};

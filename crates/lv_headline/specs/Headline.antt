@@ -1,8 +1,9 @@
 -- What `proved` says of a text, in the words of runs alone; and the laws that give it.
-use Rattle.std.specs.Prelude.{◌≡◌, ℕ, true, List}
+use Rattle.std.specs.Prelude.{◌≡◌, ◌≤◌, ℕ, true, List}
 use Rattle.lv_tree.specs.declared.tree.Tree.{Tree}
 use Rattle.lv_system.specs.declared.parts.Parts.{Parts}
 use Rattle.lv_system.specs.Lasso.{Meets}
+use Rattle.lv_chain.specs.Chain.{chain_of}
 use Rattle.lv_labels.specs.Positions.{Bounded}
 use Rattle.lv_grammar.specs.LabelLimits.{labels_keep_limits}
 use Rattle.lv_grammar.specs.Spelling.{Spells, SpellsSystem}
@@ -42,3 +43,11 @@ ValidTextsHold = (bytes : List ℕ) (p : Parts) → Spells bytes p → AreValid 
 abbrev pub ValidTextsAreProved : Type 0
 ValidTextsAreProved = (bytes : List ℕ) (p : Parts) → Spells bytes p → ((other : Parts) → Spells bytes other → other ≡ p) → AreValid p
     → IsProved bytes
+
+-- the chains of 2 to 16 places keep the limits on labels
+abbrev pub ChainsKeepLimits : Type 0
+ChainsKeepLimits = (places : ℕ) → 2 ≤ places → places ≤ 16 → labels_keep_limits (chain_of places) ≡ true
+
+-- and it holds of each of which all obligations are valid
+abbrev pub ValidChainsHold : Type 0
+ValidChainsHold = (places : ℕ) → 2 ≤ places → places ≤ 16 → AreValid (chain_of places) → HoldsAtAllSizes (chain_of places)

@@ -1,5 +1,7 @@
--- The texts of reports: on a system's obligations, on the check of a structure, on the replay of a lasso.
-use Rattle.std.specs.Prelude.{ℕ, Bool, false, eqb, List, [], ◌∷◌, ◌++◌, codes, decimal, slice_get, Option, Some, None}
+-- The texts of reports: on a system's obligations, on the check of a structure, on the replay of a lasso, on a system that
+-- was made.
+use Rattle.std.specs.Prelude.{ℕ, Bool, false, eqb, List, [], ◌∷◌, ◌++◌, codes, decimal, slice_get, take, Option, Some, None}
+use Rattle.std.specs.List.{position_or_len}
 use Rattle.lv_formula.specs.declared.symbols.SortId.{SortId}
 use Rattle.lv_formula.specs.declared.vocabulary.Vocabulary.{Vocabulary}
 use Rattle.lv_struct.specs.Tables.{Tables}
@@ -11,6 +13,7 @@ use Rattle.lv_labels.specs.declared.which.Which.TheVariants.{Start, Step, Catch}
 use Rattle.lv_labels.specs.Obligations.{vocabulary_of}
 use Rattle.lv_labels.specs.Problem.{problem_of}
 use Rattle.lv_oblig.specs.Numbers.{obligation_at}
+use Rattle.lv_grammar.specs.Layout.{shown_text}
 use Rattle.lv_grammar.specs.ShownStructures.{shown_structure}
 
 -- ---- names
@@ -85,6 +88,19 @@ guard_fails_text step = numbered_text (codes "guard fails ") step
 
 abbrev pub unfair_text : Parts → ℕ → List ℕ
 unfair_text p fair = codes "unfair " ++ (name_at (λ c. c.name) p.fairs fair ++ codes "\n")
+
+-- the bytes before the first space
+abbrev pub first_word : List ℕ → List ℕ
+first_word text = take (position_or_len (λ b. eqb b 32) text) text
+
+-- comments: how many obligations there are, the largest size of one, and this answer
+abbrev pub figures_text : ℕ → ℕ → List ℕ → List ℕ
+figures_text obligations largest answer =
+    numbered_text (codes "; obligations ") obligations ++ (numbered_text (codes "; largest size ") largest ++ (codes "; answer " ++ (answer ++ codes "\n")))
+
+-- the text of a system, and the same of it
+abbrev pub made_text : Parts → ℕ → ℕ → List ℕ → List ℕ
+made_text p obligations largest answer = shown_text p ++ figures_text obligations largest answer
 
 -- ---- the first byte
 

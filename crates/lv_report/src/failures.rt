@@ -2,7 +2,7 @@
 ghost use Rattle.std.specs.Prelude.{◌≡◌, IfOk};
 ghost use Rattle.lv_report.specs.Texts.{axiom_fails_text, guard_fails_text, hypothesis_fails_text, numbered_text, unfair_text};
 
-use crate::names::{push_name, push_number};
+use crate::names::{push_name, push_numbered};
 use lv_formula::Memory;
 use lv_system::System;
 use lv_tree::List;
@@ -12,9 +12,8 @@ use std::alloc::Global;
 fn numbered(alloc: Global, words: &[u8], number: u32) -> Result<List<u8>, Memory>
     ensures { IfOk result (λ text. text ≡ numbered_text words.now number) }
 {
-    let mut text = Vec::from_slice(alloc, words)?;
-    push_number(&mut text, number as u64)?;
-    text.extend_from_slice(b"\n")?;
+    let mut text = Vec::new(alloc);
+    push_numbered(&mut text, words, number as u64)?;
     Ok(List::from_vec(text))
 }
 

@@ -3,7 +3,7 @@ ghost use Rattle.std.specs.Prelude.{◌≡◌, ℕ, List, true, false};
 ghost use Rattle.lv_formula.specs.declared.symbols.SortId.{SortId};
 ghost use Rattle.lv_struct.specs.Tables.{Tables};
 ghost use Rattle.lv_system.specs.declared.parts.Parts.{Parts};
-ghost use Rattle.lv_report.specs.Texts.{axiom_fails_text, begins_with_p, countermodel_text, guard_fails_text, hypothesis_fails_text, not_stratified_text, proved_text, spent_text, too_large_text, unfair_text};
+ghost use Rattle.lv_report.specs.Texts.{axiom_fails_text, begins_with_p, countermodel_text, guard_fails_text, hypothesis_fails_text, made_text, not_stratified_text, proved_text, spent_text, too_large_text, unfair_text};
 ghost use Rattle.lv_report.specs.Spelling.{CountermodelsAreSpelled, ObligationsHaveWords};
 
 /// Of the reports only the one that all obligations are valid begins with the byte `p`.
@@ -16,6 +16,7 @@ pub fn only_proved_begins_with_p()
     ensures hypothesis_fails { (number : ℕ) → begins_with_p (hypothesis_fails_text number) ≡ false }
     ensures axiom_fails { (number : ℕ) → begins_with_p (axiom_fails_text number) ≡ false }
     ensures guard_fails { (step : ℕ) → begins_with_p (guard_fails_text step) ≡ false }
+    ensures made { (p : Parts) (obligations largest : ℕ) (answer : List ℕ) → begins_with_p (made_text p obligations largest answer) ≡ false }
     ensures unfair { (p : Parts) (fair : ℕ) → begins_with_p (unfair_text p fair) ≡ false }
 {}
 

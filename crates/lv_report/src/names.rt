@@ -1,6 +1,6 @@
 //! Numbers and names in a text.
 ghost use Rattle.std.specs.Prelude.{◌≡◌, ◌++◌, decimal, slice_get, OnOk};
-ghost use Rattle.lv_report.specs.Texts.{move_text, name_at, obligation_text, sort_texts};
+ghost use Rattle.lv_report.specs.Texts.{move_text, name_at, numbered_text, obligation_text, sort_texts};
 
 use itoa::Buffer;
 use lv_formula::{Memory, SortId};
@@ -14,6 +14,16 @@ pub(crate) fn push_number(text: &mut Vec<u8>, number: u64) -> Result<(), Memory>
 {
     let mut buffer = Buffer::new();
     text.extend_from_slice(buffer.format(number).as_bytes())?;
+    Ok(())
+}
+
+/// Adds the words and the number behind them, and a newline.
+pub(crate) fn push_numbered(text: &mut Vec<u8>, words: &[u8], number: u64) -> Result<(), Memory>
+    ensures { OnOk result (text.new.items ≡ text.old.items ++ numbered_text words.now number) }
+{
+    text.extend_from_slice(words)?;
+    push_number(text, number)?;
+    text.extend_from_slice(b"\n")?;
     Ok(())
 }
 

@@ -25,8 +25,8 @@ use Rattle.lv_prove.specs.declared.outcome.Outcome.{Outcome}
 use Rattle.lv_prove.specs.declared.outcome.Outcome.TheVariants as O
 use Rattle.lv_prove.specs.Outcomes.{IsOutcome}
 use Rattle.lv_run.specs.declared.answer.Composed.{Composed}
-use Rattle.lv_command.specs.declared.mode.Mode.{Mode}
-use Rattle.lv_command.specs.declared.mode.Mode.TheVariants.{Check, Prove, Replay, Show}
+use Rattle.lv_command.specs.declared.mode.TextMode.{TextMode}
+use Rattle.lv_command.specs.declared.mode.TextMode.TheVariants.{Check, Prove, Replay, Show}
 use Rattle.lv_run.specs.declared.detail.Detail.{Detail}
 use Rattle.lv_run.specs.declared.reader.Refusal.{Refusal}
 use Rattle.lv_run.specs.declared.reader.Refusal.TheVariants as R
@@ -113,12 +113,12 @@ pub replay_answered : (bytes : List ℕ) (t : ReplayText) (r : Result Composed M
 replay_answered bytes t (Ok c) s a = record { reading = OneReplay t; reads = s; is = a.0; report = a.1 }
 replay_answered bytes t (Err e) s a = tt
 
-refused : (mode : Mode) (bytes : List ℕ) (refusal : Refusal) (d : Detail) (out : List ℕ) → IsRefused (language_of mode) bytes refusal → IsRefusal refusal d out → IsAnswered mode bytes d out
+refused : (mode : TextMode) (bytes : List ℕ) (refusal : Refusal) (d : Detail) (out : List ℕ) → IsRefused (language_of mode) bytes refusal → IsRefusal refusal d out → IsAnswered mode bytes d out
 refused mode bytes (R.Tree fault) d out is a = record { reading = NoTree fault; reads = is; is = a.0; report = a.1 }
 refused mode bytes (R.Syntax fault) d out is a = record { reading = NoText fault; reads = is; is = a.0; report = a.1 }
 refused mode bytes R.Memory d out is a = absurd a
 
-pub refusal_answered : (mode : Mode) (bytes : List ℕ) (refusal : Refusal) (r : Result Composed Memory) → IsRefused (language_of mode) bytes refusal
+pub refusal_answered : (mode : TextMode) (bytes : List ℕ) (refusal : Refusal) (r : Result Composed Memory) → IsRefused (language_of mode) bytes refusal
     → IfOk r (λ c. IsRefusal refusal c.detail c.out) → IfOk r (λ c. IsAnswered mode bytes c.detail c.out)
 refusal_answered mode bytes refusal (Ok c) is a = refused mode bytes refusal c.detail c.out is a
 refusal_answered mode bytes refusal (Err e) is a = tt

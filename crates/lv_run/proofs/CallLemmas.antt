@@ -6,7 +6,9 @@ use Rattle.std.specs.declared.alloc.Global.{Global}
 use Rattle.std.specs.Io.KnownBytes.{IsAtEnd}
 use Rattle.lv_system.specs.declared.parts.Parts.{Parts}
 use Rattle.lv_command.specs.declared.mode.Mode.{Mode}
-use Rattle.lv_command.specs.declared.mode.Mode.TheVariants.{Check, Prove, Replay, Show}
+use Rattle.lv_command.specs.declared.mode.Mode.TheVariants.{Make, OnText}
+use Rattle.lv_command.specs.declared.mode.TextMode.{TextMode}
+use Rattle.lv_command.specs.declared.mode.TextMode.TheVariants.{Check, Prove, Replay, Show}
 use Rattle.lv_struct.specs.Tables.{Tables}
 use Rattle.lv_labels.specs.declared.which.Which.TheVariants.{Catch}
 use Rattle.lv_labels.specs.Obligations.{AreValid}
@@ -15,7 +17,8 @@ use Rattle.lv_run.specs.declared.detail.Detail.{Detail}
 use Rattle.lv_run.specs.declared.detail.Detail.TheVariants as D
 use Rattle.lv_run.specs.Answers.{Reading, NoTree, NoText, OneSystem, OneCheck, OneReplay, Reads, IsVerdict, IsCheckAnswer, IsReplayAnswer, IsAnswer, IsAnswered, language_of}
 use Rattle.lv_run.specs.Requests.{CheckText, ReplayText}
-use Rattle.lv_run.specs.Calls.{AskFor, AreCommand, AreNoCommand, AreRead, IsReadAnswer, IsComposed, IsRead, HasAnswer, IsCaused, HasReason, IsLeft, IsOrFault, IsCounterOrSpent, IsEnough, IsNotSpent, IsProvedOrSpent, IsUsageOrFault}
+use Rattle.lv_run.specs.Calls.{AskFor, AskOfText, AreNoCommand, AreRead, IsReadAnswer, IsComposed, IsRead, HasAnswer, IsCaused, HasReason, IsLeft, IsOrFault, IsChainOrFault, IsCounterOrSpent, IsEnough, IsNotSpent, IsProvedOrSpent, IsUsageOrFault}
+use Rattle.lv_run.specs.Chains.{IsChainAnswer}
 use Rattle.lv_run.proofs.ReadingLemmas.{one_reading}
 
 -- ---- which answers a text has
@@ -32,6 +35,7 @@ to_text (D.Checked checked) = true
 to_text (D.Replayed answer) = true
 to_text (D.TreeRefused f) = true
 to_text (D.SyntaxRefused f) = true
+to_text (D.Made obligations largest answer) = false
 to_text D.Usage = false
 to_text D.TooLong = false
 to_text D.ReadFault = false
@@ -47,6 +51,7 @@ verdict_to_text p budget (D.Spent i log) v = refl
 verdict_to_text p budget D.Shown v = absurd v
 verdict_to_text p budget (D.Checked checked) v = absurd v
 verdict_to_text p budget (D.Replayed answer) v = absurd v
+verdict_to_text p budget (D.Made obligations largest answer) v = absurd v
 verdict_to_text p budget (D.TreeRefused f) v = absurd v
 verdict_to_text p budget (D.SyntaxRefused f) v = absurd v
 verdict_to_text p budget D.Usage v = absurd v
@@ -64,6 +69,7 @@ check_to_text c (D.TooLarge i) v = absurd v
 check_to_text c (D.Spent i log) v = absurd v
 check_to_text c D.Shown v = absurd v
 check_to_text c (D.Replayed answer) v = absurd v
+check_to_text c (D.Made obligations largest answer) v = absurd v
 check_to_text c (D.TreeRefused f) v = absurd v
 check_to_text c (D.SyntaxRefused f) v = absurd v
 check_to_text c D.Usage v = absurd v
@@ -81,6 +87,7 @@ replay_to_text r (D.TooLarge i) v = absurd v
 replay_to_text r (D.Spent i log) v = absurd v
 replay_to_text r D.Shown v = absurd v
 replay_to_text r (D.Checked checked) v = absurd v
+replay_to_text r (D.Made obligations largest answer) v = absurd v
 replay_to_text r (D.TreeRefused f) v = absurd v
 replay_to_text r (D.SyntaxRefused f) v = absurd v
 replay_to_text r D.Usage v = absurd v
@@ -89,7 +96,7 @@ replay_to_text r D.ReadFault v = absurd v
 replay_to_text r D.WriteFault v = absurd v
 replay_to_text r D.MemoryWanting v = absurd v
 
-answer_to_text : (mode : Mode) (r : Reading) (d : Detail) → IsAnswer mode r d → to_text d ≡ true
+answer_to_text : (mode : TextMode) (r : Reading) (d : Detail) → IsAnswer mode r d → to_text d ≡ true
 answer_to_text mode (NoTree f) d a = rw a refl
 answer_to_text mode (NoText f) d a = rw a refl
 answer_to_text (Prove budget) (OneSystem p) d a = verdict_to_text p budget d a
@@ -109,8 +116,8 @@ untrue : false ≡ true → ⊥
 untrue e = cc
 
 -- an answer to a text is one that may be composed
-pub composed : (words : List (String Global)) (left : Option (List ℕ)) (mode : Mode) (bytes : List ℕ) (d : Detail) (out : List ℕ)
-    → AskFor mode words → AreRead left bytes → IsAnswered mode bytes d out → IsComposed words left d out
+pub composed : (words : List (String Global)) (left : Option (List ℕ)) (mode : TextMode) (bytes : List ℕ) (d : Detail) (out : List ℕ)
+    → AskFor (OnText mode) words → AreRead left bytes → IsAnswered mode bytes d out → IsComposed words left d out
 composed words left mode bytes d out asked read a = by d (answer_to_text mode a.reading d a.is) (record { mode = mode; asked = asked; bytes = bytes; read = read; answered = a }) where
   by : (d : Detail) → to_text d ≡ true → IsReadAnswer words left d out → IsComposed words left d out
   by (D.Proved n) e i = i
@@ -123,6 +130,7 @@ composed words left mode bytes d out asked read a = by d (answer_to_text mode a.
   by (D.Replayed answer) e i = i
   by (D.TreeRefused f) e i = i
   by (D.SyntaxRefused f) e i = i
+  by (D.Made obligations largest answer) e i = absurd (untrue e)
   by D.Usage e i = absurd (untrue e)
   by D.TooLong e i = absurd (untrue e)
   by D.ReadFault e i = absurd (untrue e)
@@ -130,11 +138,11 @@ composed words left mode bytes d out asked read a = by d (answer_to_text mode a.
   by D.MemoryWanting e i = absurd (untrue e)
 
 -- an answer to a text is no fault of reading
-pub no_read_fault : (mode : Mode) (bytes : List ℕ) (d : Detail) (out : List ℕ) → IsAnswered mode bytes d out → d ≡ D.ReadFault → ⊥
+pub no_read_fault : (mode : TextMode) (bytes : List ℕ) (d : Detail) (out : List ℕ) → IsAnswered mode bytes d out → d ≡ D.ReadFault → ⊥
 no_read_fault mode bytes d out a e = untrue (subst (λ x. to_text x ≡ true) e (answer_to_text mode a.reading d a.is))
 
 -- a text that is answered was read to its end
-pub left_at_end : (mode : Mode) (bytes : List ℕ) (d : Detail) (out : List ℕ) (before now : Option (List ℕ)) → IsAnswered mode bytes d out → IsAtEnd now → IsLeft d before now
+pub left_at_end : (mode : TextMode) (bytes : List ℕ) (d : Detail) (out : List ℕ) (before now : Option (List ℕ)) → IsAnswered mode bytes d out → IsAtEnd now → IsLeft d before now
 left_at_end mode bytes d out before now a end = by d (answer_to_text mode a.reading d a.is) where
   by : (d : Detail) → to_text d ≡ true → IsLeft d before now
   by (D.Proved n) e = end
@@ -147,6 +155,7 @@ left_at_end mode bytes d out before now a end = by d (answer_to_text mode a.read
   by (D.Replayed answer) e = end
   by (D.TreeRefused f) e = end
   by (D.SyntaxRefused f) e = end
+  by (D.Made obligations largest answer) e = absurd (untrue e)
   by D.Usage e = absurd (untrue e)
   by D.TooLong e = absurd (untrue e)
   by D.ReadFault e = absurd (untrue e)
@@ -175,6 +184,7 @@ reason words left (D.Spent i log) out c = caused words left _ out c
 reason words left D.Shown out c = caused words left _ out c
 reason words left (D.Checked checked) out c = caused words left _ out c
 reason words left (D.Replayed answer) out c = caused words left _ out c
+reason words left (D.Made obligations largest answer) out c = record { places = c.places; asked = c.asked; is = c.answered.0 }
 reason words left (D.TreeRefused f) out c = caused words left _ out c
 reason words left (D.SyntaxRefused f) out c = caused words left _ out c
 reason words left D.Usage out c = c.0
@@ -192,23 +202,27 @@ at_bytes Is left bytes e i = rw e at i
 asked_for_one : (words : List (String Global)) (mode : Mode) → AskFor mode words → AreNoCommand words → ⊥
 asked_for_one words mode a b = let bad : Some mode ≡ None = sym a ∙ b in cc
 
-same_mode : (words : List (String Global)) (m n : Mode) → AskFor m words → AskFor n words → m ≡ n
+pub same_mode : (words : List (String Global)) (m n : Mode) → AskFor m words → AskFor n words → m ≡ n
 same_mode words m n a b = let same : Some m ≡ Some n = sym a ∙ b in cc
 
+not_both : (words : List (String Global)) (places : ℕ) (mode : TextMode) → AskFor (Make places) words → AskFor (OnText mode) words → ⊥
+not_both words places mode a b = let same : Make places ≡ OnText mode = same_mode words (Make places) (OnText mode) a b in cc
+
 pub only_usage : (words : List (String Global)) (left : Option (List ℕ)) (d : Detail) → HasReason words left d → AreNoCommand words → IsUsageOrFault d
-only_usage words left (D.Proved n) r other = absurd (asked_for_one words r.mode r.asked other)
-only_usage words left (D.Counter i w) r other = absurd (asked_for_one words r.mode r.asked other)
-only_usage words left (D.NotStratified i ss) r other = absurd (asked_for_one words r.mode r.asked other)
-only_usage words left (D.TooLarge i) r other = absurd (asked_for_one words r.mode r.asked other)
-only_usage words left (D.Spent i log) r other = absurd (asked_for_one words r.mode r.asked other)
-only_usage words left D.Shown r other = absurd (asked_for_one words r.mode r.asked other)
-only_usage words left (D.Checked checked) r other = absurd (asked_for_one words r.mode r.asked other)
-only_usage words left (D.Replayed answer) r other = absurd (asked_for_one words r.mode r.asked other)
-only_usage words left (D.TreeRefused f) r other = absurd (asked_for_one words r.mode r.asked other)
-only_usage words left (D.SyntaxRefused f) r other = absurd (asked_for_one words r.mode r.asked other)
+only_usage words left (D.Proved n) r other = absurd (asked_for_one words (OnText r.mode) r.asked other)
+only_usage words left (D.Counter i w) r other = absurd (asked_for_one words (OnText r.mode) r.asked other)
+only_usage words left (D.NotStratified i ss) r other = absurd (asked_for_one words (OnText r.mode) r.asked other)
+only_usage words left (D.TooLarge i) r other = absurd (asked_for_one words (OnText r.mode) r.asked other)
+only_usage words left (D.Spent i log) r other = absurd (asked_for_one words (OnText r.mode) r.asked other)
+only_usage words left D.Shown r other = absurd (asked_for_one words (OnText r.mode) r.asked other)
+only_usage words left (D.Checked checked) r other = absurd (asked_for_one words (OnText r.mode) r.asked other)
+only_usage words left (D.Replayed answer) r other = absurd (asked_for_one words (OnText r.mode) r.asked other)
+only_usage words left (D.Made obligations largest answer) r other = absurd (asked_for_one words (Make r.places) r.asked other)
+only_usage words left (D.TreeRefused f) r other = absurd (asked_for_one words (OnText r.mode) r.asked other)
+only_usage words left (D.SyntaxRefused f) r other = absurd (asked_for_one words (OnText r.mode) r.asked other)
 only_usage words left D.Usage r other = tt
-only_usage words left D.TooLong r other = absurd (asked_for_one words r.0.mode r.0.asked other)
-only_usage words left D.ReadFault r other = absurd (asked_for_one words r.mode r.asked other)
+only_usage words left D.TooLong r other = absurd (asked_for_one words (OnText r.0.mode) r.0.asked other)
+only_usage words left D.ReadFault r other = absurd (asked_for_one words (OnText r.mode) r.asked other)
 only_usage words left D.WriteFault r other = tt
 only_usage words left D.MemoryWanting r other = tt
 
@@ -216,7 +230,7 @@ read_is_few : (words : List (String Global)) (left : Option (List ℕ)) (d : Det
 read_is_few words left d bytes r e long = let few : length bytes ≤ 1048576 = (at_bytes _ left bytes e r.text).few in omega arith
 
 pub only_too_long : (words : List (String Global)) (left : Option (List ℕ)) (d : Detail) → HasReason words left d
-    → (bytes : List ℕ) → AreCommand words → left ≡ Some bytes → 1048576 < length bytes → IsOrFault (λ answer. answer ≡ D.TooLong) d
+    → (bytes : List ℕ) → AskOfText words → left ≡ Some bytes → 1048576 < length bytes → IsOrFault (λ answer. answer ≡ D.TooLong) d
 only_too_long words left (D.Proved n) r bytes w e long = absurd (read_is_few words left _ bytes r e long)
 only_too_long words left (D.Counter i m) r bytes w e long = absurd (read_is_few words left _ bytes r e long)
 only_too_long words left (D.NotStratified i ss) r bytes w e long = absurd (read_is_few words left _ bytes r e long)
@@ -225,26 +239,28 @@ only_too_long words left (D.Spent i log) r bytes w e long = absurd (read_is_few 
 only_too_long words left D.Shown r bytes w e long = absurd (read_is_few words left _ bytes r e long)
 only_too_long words left (D.Checked checked) r bytes w e long = absurd (read_is_few words left _ bytes r e long)
 only_too_long words left (D.Replayed answer) r bytes w e long = absurd (read_is_few words left _ bytes r e long)
+only_too_long words left (D.Made obligations largest answer) r bytes w e long = absurd (not_both words r.places w.mode r.asked w.asked)
 only_too_long words left (D.TreeRefused f) r bytes w e long = absurd (read_is_few words left _ bytes r e long)
 only_too_long words left (D.SyntaxRefused f) r bytes w e long = absurd (read_is_few words left _ bytes r e long)
-only_too_long words left D.Usage r bytes w e long = absurd (asked_for_one words w.mode w.asked r)
+only_too_long words left D.Usage r bytes w e long = absurd (asked_for_one words (OnText w.mode) w.asked r)
 only_too_long words left D.TooLong r bytes w e long = refl
 only_too_long words left D.ReadFault r bytes w e long = tt
 only_too_long words left D.WriteFault r bytes w e long = tt
 only_too_long words left D.MemoryWanting r bytes w e long = tt
 
 -- the answer that has a cause is one of what the bytes come to
-has_answer : (words : List (String Global)) (left : Option (List ℕ)) (d : Detail) (mode : Mode) (bytes : List ℕ) (reading : Reading) → IsCaused words left d
-    → AskFor mode words → left ≡ Some bytes → Reads (language_of mode) bytes reading → IsAnswer mode reading d
+has_answer : (words : List (String Global)) (left : Option (List ℕ)) (d : Detail) (mode : TextMode) (bytes : List ℕ) (reading : Reading) → IsCaused words left d
+    → AskFor (OnText mode) words → left ≡ Some bytes → Reads (language_of mode) bytes reading → IsAnswer mode reading d
 has_answer words left d mode bytes reading r asked e reads =
     let a = (at_bytes _ left bytes e r.text).is in
-    let same = same_mode words r.mode mode r.asked asked in
+    let one : OnText r.mode ≡ OnText mode = same_mode words (OnText r.mode) (OnText mode) r.asked asked in
+    let same : r.mode ≡ mode = cc in
     let read : Reads (language_of mode) bytes a.reading = subst (λ m. Reads (language_of m) bytes a.reading) same a.reads in
     subst (λ x. IsAnswer mode x d) (one_reading (language_of mode) bytes a.reading reading read reads)
     (subst (λ m. IsAnswer m a.reading d) same a.is)
 
 pub only_answer : (words : List (String Global)) (left : Option (List ℕ)) (d : Detail) → HasReason words left d
-    → (mode : Mode) (bytes : List ℕ) (reading : Reading) → AskFor mode words → left ≡ Some bytes → length bytes ≤ 1048576 → Reads (language_of mode) bytes reading
+    → (mode : TextMode) (bytes : List ℕ) (reading : Reading) → AskFor (OnText mode) words → left ≡ Some bytes → length bytes ≤ 1048576 → Reads (language_of mode) bytes reading
     → IsOrFault (IsAnswer mode reading) d
 only_answer words left (D.Proved n) r mode bytes reading w e few reads = has_answer words left _ mode bytes reading r w e reads
 only_answer words left (D.Counter i m) r mode bytes reading w e few reads = has_answer words left _ mode bytes reading r w e reads
@@ -254,13 +270,36 @@ only_answer words left (D.Spent i log) r mode bytes reading w e few reads = has_
 only_answer words left D.Shown r mode bytes reading w e few reads = has_answer words left _ mode bytes reading r w e reads
 only_answer words left (D.Checked checked) r mode bytes reading w e few reads = has_answer words left _ mode bytes reading r w e reads
 only_answer words left (D.Replayed answer) r mode bytes reading w e few reads = has_answer words left _ mode bytes reading r w e reads
+only_answer words left (D.Made obligations largest answer) r mode bytes reading w e few reads = absurd (not_both words r.places mode r.asked w)
 only_answer words left (D.TreeRefused f) r mode bytes reading w e few reads = has_answer words left _ mode bytes reading r w e reads
 only_answer words left (D.SyntaxRefused f) r mode bytes reading w e few reads = has_answer words left _ mode bytes reading r w e reads
-only_answer words left D.Usage r mode bytes reading w e few reads = absurd (asked_for_one words mode w r)
+only_answer words left D.Usage r mode bytes reading w e few reads = absurd (asked_for_one words (OnText mode) w r)
 only_answer words left D.TooLong r mode bytes reading w e few reads = let long : 1048576 < length bytes = at_bytes _ left bytes e r.1 in absurd (omega arith)
 only_answer words left D.ReadFault r mode bytes reading w e few reads = tt
 only_answer words left D.WriteFault r mode bytes reading w e few reads = tt
 only_answer words left D.MemoryWanting r mode bytes reading w e few reads = tt
+
+-- to a chain no answer but its own comes
+pub only_chain : (words : List (String Global)) (left : Option (List ℕ)) (d : Detail) → HasReason words left d → (places : ℕ) → AskFor (Make places) words → IsChainOrFault places d
+only_chain words left (D.Proved n) r places w = absurd (not_both words places r.mode w r.asked)
+only_chain words left (D.Counter i m) r places w = absurd (not_both words places r.mode w r.asked)
+only_chain words left (D.NotStratified i ss) r places w = absurd (not_both words places r.mode w r.asked)
+only_chain words left (D.TooLarge i) r places w = absurd (not_both words places r.mode w r.asked)
+only_chain words left (D.Spent i log) r places w = absurd (not_both words places r.mode w r.asked)
+only_chain words left D.Shown r places w = absurd (not_both words places r.mode w r.asked)
+only_chain words left (D.Checked checked) r places w = absurd (not_both words places r.mode w r.asked)
+only_chain words left (D.Replayed answer) r places w = absurd (not_both words places r.mode w r.asked)
+only_chain words left (D.TreeRefused f) r places w = absurd (not_both words places r.mode w r.asked)
+only_chain words left (D.SyntaxRefused f) r places w = absurd (not_both words places r.mode w r.asked)
+only_chain words left (D.Made obligations largest answer) r places w =
+    let one : Make r.places ≡ Make places = same_mode words (Make r.places) (Make places) r.asked w in
+    let same : r.places ≡ places = cc in
+    subst (λ (n : ℕ). IsChainAnswer n (D.Made obligations largest answer)) same r.is
+only_chain words left D.Usage r places w = absurd (asked_for_one words (Make places) w r)
+only_chain words left D.TooLong r places w = absurd (not_both words places r.0.mode w r.0.asked)
+only_chain words left D.ReadFault r places w = absurd (not_both words places r.mode w r.asked)
+only_chain words left D.WriteFault r places w = tt
+only_chain words left D.MemoryWanting r places w = tt
 
 -- ---- the answers to a system whose obligations are all decided
 
@@ -288,6 +327,7 @@ only_proved p budget (D.Spent i log) a f valid = a.1
 only_proved p budget D.Shown a f valid = absurd a
 only_proved p budget (D.Checked checked) a f valid = absurd a
 only_proved p budget (D.Replayed answer) a f valid = absurd a
+only_proved p budget (D.Made obligations largest answer) a f valid = absurd a
 only_proved p budget (D.TreeRefused fault) a f valid = absurd a
 only_proved p budget (D.SyntaxRefused fault) a f valid = absurd a
 only_proved p budget D.Usage a f valid = absurd a
@@ -317,6 +357,7 @@ only_counter p budget (D.Spent i log) index w a f broken = (a.1, not_past p i in
 only_counter p budget D.Shown index w a f broken = absurd a
 only_counter p budget (D.Checked checked) index w a f broken = absurd a
 only_counter p budget (D.Replayed answer) index w a f broken = absurd a
+only_counter p budget (D.Made obligations largest answer) index w a f broken = absurd a
 only_counter p budget (D.TreeRefused fault) index w a f broken = absurd a
 only_counter p budget (D.SyntaxRefused fault) index w a f broken = absurd a
 only_counter p budget D.Usage index w a f broken = absurd a
@@ -338,6 +379,7 @@ never_spent p budget (D.Spent i log) a enough =
 never_spent p budget D.Shown a enough = tt
 never_spent p budget (D.Checked checked) a enough = tt
 never_spent p budget (D.Replayed answer) a enough = tt
+never_spent p budget (D.Made obligations largest answer) a enough = tt
 never_spent p budget (D.TreeRefused fault) a enough = tt
 never_spent p budget (D.SyntaxRefused fault) a enough = tt
 never_spent p budget D.Usage a enough = tt

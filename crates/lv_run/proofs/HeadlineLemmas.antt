@@ -1,5 +1,5 @@
 -- Where the first byte of a report is `p`, the text was proved.
-use Rattle.std.proofs.Common.{◌≡◌, ◌⊎◌, ℕ, zero, suc, List, [], ◌∷◌, ◌++◌, take, true, false, Option, Some, None, refl, sym, ap, subst, ◌∙◌, inl, inr}
+use Rattle.std.proofs.Common.{◌≡◌, ◌⊎◌, ℕ, zero, suc, List, [], ◌∷◌, ◌++◌, take, map, string_bytes, true, false, Option, Some, None, refl, sym, ap, subst, ◌∙◌, inl, inr}
 use Rattle.std.specs.Prelude.{IfSome}
 use Rattle.std.specs.declared.string.String.{String}
 use Rattle.std.specs.declared.alloc.Global.{Global}
@@ -9,12 +9,16 @@ use Rattle.lv_system.specs.declared.parts.Parts.{Parts}
 use Rattle.lv_run.specs.declared.detail.Detail.{Detail}
 use Rattle.lv_run.specs.declared.detail.Detail.TheVariants as D
 use Rattle.lv_grammar.specs.Layout.{shown_text}
-use Rattle.lv_command.specs.declared.mode.Mode.{Mode}
-use Rattle.lv_command.specs.declared.mode.Mode.TheVariants.{Check, Prove, Replay, Show}
+use Rattle.lv_command.specs.declared.mode.Mode.TheVariants.{Make}
+use Rattle.lv_command.specs.declared.mode.TextMode.{TextMode}
+use Rattle.lv_command.specs.declared.mode.TextMode.TheVariants.{Check, Prove, Replay, Show}
+use Rattle.lv_command.proofs.CommandWords.{in_range}
+use Rattle.lv_chain.specs.Chain.{chain_of}
+use Rattle.lv_prove.specs.declared.outcome.Outcome.{Outcome}
 use Rattle.lv_prove.specs.declared.outcome.Outcome.TheVariants as O
 use Rattle.lv_prove.specs.Outcomes.{IsOutcome}
-use Rattle.lv_headline.specs.Headline.{IsProved}
-use Rattle.lv_headline.proofs.Sound.{text_proved}
+use Rattle.lv_headline.specs.Headline.{HoldsAtAllSizes, IsProved}
+use Rattle.lv_headline.proofs.Sound.{chain_holds, text_proved}
 use Rattle.lv_report.specs.Texts.{begins_with_p}
 use Rattle.lv_syntax.proofs.ReadingLaw.{spells_at_most_one}
 use Rattle.lv_run.specs.Answers.{Reading, NoTree, NoText, OneSystem, OneCheck, OneReplay, Systems, Reads, IsAnswer, check_report, checked_text, language_of, replay_report, replayed_text, report_of, system_report}
@@ -22,8 +26,9 @@ use Rattle.lv_check.specs.declared.checking.Checked.{Checked}
 use Rattle.lv_check.specs.declared.checking.Checked.TheVariants as C
 use Rattle.lv_replay.specs.declared.answer.ReplayAnswer.{ReplayAnswer}
 use Rattle.lv_replay.specs.declared.answer.ReplayAnswer.TheVariants as L
-use Rattle.lv_run.specs.Calls.{AreRead, IsReadAnswer, IsComposed, IsDelivered, HasReason, BeginsWithP, told_of}
-use Rattle.lv_run.proofs.CallLemmas.{reason}
+use Rattle.lv_run.specs.Chains.{IsChainAnswer, made_report}
+use Rattle.lv_run.specs.Calls.{AskFor, IsMade, AreRead, IsReadAnswer, IsComposed, IsDelivered, HasReason, BeginsWithP, told_of}
+use Rattle.lv_run.proofs.CallLemmas.{reason, same_mode}
 
 -- a text's first byte is the letter `p`
 pub record StartsWithP (text : List ℕ) : Type 0 where
@@ -46,7 +51,7 @@ proof : (p : Parts) (bytes : List ℕ) (budget n : ℕ) → Reads Systems bytes 
 proof p bytes budget n reads a = text_proved bytes p reads (λ other spells. spells_at_most_one bytes other p spells reads) a.1
 
 -- of the reports on a system the one that it is proved begins with `p`
-of_system : (p : Parts) (mode : Mode) (bytes : List ℕ) (d : Detail) → Reads (language_of mode) bytes (OneSystem p) → IsAnswer mode (OneSystem p) d → StartsWithP (system_report p d) → IsProved bytes
+of_system : (p : Parts) (mode : TextMode) (bytes : List ℕ) (d : Detail) → Reads (language_of mode) bytes (OneSystem p) → IsAnswer mode (OneSystem p) d → StartsWithP (system_report p d) → IsProved bytes
 of_system p (Prove budget) bytes (D.Proved n) reads a s = proof p bytes budget n reads a
 of_system p (Prove budget) bytes (D.Counter i w) reads a s = absurd (other_letter _ refl s)
 of_system p (Prove budget) bytes (D.NotStratified i ss) reads a s = absurd (other_letter _ refl s)
@@ -55,6 +60,7 @@ of_system p (Prove budget) bytes (D.Spent i log) reads a s = absurd (other_lette
 of_system p (Prove budget) bytes D.Shown reads a s = absurd a
 of_system p (Prove budget) bytes (D.Checked checked) reads a s = absurd a
 of_system p (Prove budget) bytes (D.Replayed answer) reads a s = absurd a
+of_system p (Prove budget) bytes (D.Made obligations largest answer) reads a s = absurd a
 of_system p (Prove budget) bytes (D.TreeRefused f) reads a s = absurd a
 of_system p (Prove budget) bytes (D.SyntaxRefused f) reads a s = absurd a
 of_system p (Prove budget) bytes D.Usage reads a s = absurd a
@@ -83,6 +89,7 @@ check_letter (D.TooLarge i) s = nothing s.rest s.is
 check_letter (D.Spent i log) s = nothing s.rest s.is
 check_letter D.Shown s = nothing s.rest s.is
 check_letter (D.Replayed answer) s = nothing s.rest s.is
+check_letter (D.Made obligations largest answer) s = nothing s.rest s.is
 check_letter (D.TreeRefused f) s = nothing s.rest s.is
 check_letter (D.SyntaxRefused f) s = nothing s.rest s.is
 check_letter D.Usage s = nothing s.rest s.is
@@ -109,6 +116,7 @@ replay_letter p (D.TooLarge i) s = nothing s.rest s.is
 replay_letter p (D.Spent i log) s = nothing s.rest s.is
 replay_letter p D.Shown s = nothing s.rest s.is
 replay_letter p (D.Checked checked) s = nothing s.rest s.is
+replay_letter p (D.Made obligations largest answer) s = nothing s.rest s.is
 replay_letter p (D.TreeRefused f) s = nothing s.rest s.is
 replay_letter p (D.SyntaxRefused f) s = nothing s.rest s.is
 replay_letter p D.Usage s = nothing s.rest s.is
@@ -117,7 +125,11 @@ replay_letter p D.ReadFault s = nothing s.rest s.is
 replay_letter p D.WriteFault s = nothing s.rest s.is
 replay_letter p D.MemoryWanting s = nothing s.rest s.is
 
-of_reading : (r : Reading) (mode : Mode) (bytes : List ℕ) (d : Detail) → Reads (language_of mode) bytes r → IsAnswer mode r d → StartsWithP (report_of r d) → IsProved bytes
+-- nor any on a chain
+chain_letter : (p : Parts) (obligations largest : ℕ) (answer : Outcome) → StartsWithP (made_report p (D.Made obligations largest answer)) → ⊥
+chain_letter p obligations largest answer s = other_letter (made_report p (D.Made obligations largest answer)) refl s
+
+of_reading : (r : Reading) (mode : TextMode) (bytes : List ℕ) (d : Detail) → Reads (language_of mode) bytes r → IsAnswer mode r d → StartsWithP (report_of r d) → IsProved bytes
 of_reading (NoTree f) mode bytes d reads a s = absurd (nothing s.rest s.is)
 of_reading (NoText f) mode bytes d reads a s = absurd (nothing s.rest s.is)
 of_reading (OneSystem p) mode bytes d reads a s = of_system p mode bytes d reads a s
@@ -138,6 +150,7 @@ of_composed words left (D.Spent i log) out c s = of_answer words left _ out c s
 of_composed words left D.Shown out c s = of_answer words left _ out c s
 of_composed words left (D.Checked checked) out c s = of_answer words left _ out c s
 of_composed words left (D.Replayed answer) out c s = of_answer words left _ out c s
+of_composed words left (D.Made obligations largest answer) out c s = absurd (chain_letter (chain_of c.places) obligations largest answer (subst StartsWithP c.answered.1 s))
 of_composed words left (D.TreeRefused f) out c s = of_answer words left _ out c s
 of_composed words left (D.SyntaxRefused f) out c s = of_answer words left _ out c s
 of_composed words left D.Usage out c s = absurd (nothing s.rest (sym c.1 ∙ s.is))
@@ -181,3 +194,14 @@ pub reason_delivered : (words : List (String Global)) (left : Option (List ℕ))
     → IsComposed words left composed on-out → IsDelivered composed answered on-out (told_of composed) out out' err err' → HasReason words left answered
 reason_delivered words left composed answered on-out out out' err err' c (inl d) = subst (HasReason words left) (sym d.0) (reason words left composed on-out c)
 reason_delivered words left composed answered on-out out out' err err' c (inr d) = subst (HasReason words left) (sym d.0) tt
+
+-- a chain whose answer is that it is proved has all its obligations valid
+pub chain_headline : (words : List (String Global)) (left : Option (List ℕ)) (d : Detail) → HasReason words left d → (places obligations largest n : ℕ) → AskFor (Make places) words
+    → d ≡ D.Made obligations largest (O.Proved n) → HoldsAtAllSizes (chain_of places)
+chain_headline words left d r places obligations largest n asked is =
+    let made : IsMade words (D.Made obligations largest (O.Proved n)) = subst (HasReason words left) is r in
+    let one : Make made.places ≡ Make places = same_mode words (Make made.places) (Make places) made.asked asked in
+    let same : made.places ≡ places = cc in
+    let answer : IsChainAnswer places (D.Made obligations largest (O.Proved n)) = subst (λ (m : ℕ). IsChainAnswer m (D.Made obligations largest (O.Proved n))) same made.is in
+    let range = in_range (Some (Make places)) (map (λ word. string_bytes word) words) (sym asked) in
+    chain_holds places range.0 range.1 answer.decided.1

@@ -20,8 +20,8 @@ use Rattle.lv_replay.specs.declared.answer.ReplayAnswer.{ReplayAnswer}
 use Rattle.lv_replay.specs.declared.answer.ReplayAnswer.TheVariants as L
 use Rattle.lv_replay.specs.Answers as replays
 use Rattle.lv_report.specs.Texts.{axiom_fails_text, countermodel_text, guard_fails_text, hypothesis_fails_text, not_stratified_text, proved_text, spent_text, too_large_text, unfair_text}
-use Rattle.lv_command.specs.declared.mode.Mode.{Mode}
-use Rattle.lv_command.specs.declared.mode.Mode.TheVariants.{Check, Prove, Replay, Show}
+use Rattle.lv_command.specs.declared.mode.TextMode.{TextMode}
+use Rattle.lv_command.specs.declared.mode.TextMode.TheVariants.{Check, Prove, Replay, Show}
 use Rattle.lv_run.specs.declared.detail.Detail.{Detail}
 use Rattle.lv_run.specs.declared.detail.Detail.TheVariants as D
 use Rattle.lv_run.specs.declared.reader.Refusal.{Refusal}
@@ -36,7 +36,7 @@ pub data Language : Type 0 where
   Checks : Language
   Replays : Language
 
-abbrev pub language_of : Mode → Language
+abbrev pub language_of : TextMode → Language
 language_of (Prove budget) = Systems
 language_of Show = Systems
 language_of Check = Checks
@@ -126,7 +126,7 @@ IsReplayAnswer r (D.Replayed answer) = replays.IsAnswer r.system r.lasso answer
 IsReplayAnswer r _ = ⊥
 
 -- what is answered in a mode, streams that fail and want of memory aside
-abbrev pub IsAnswer : Mode → Reading → Detail → Type 0
+abbrev pub IsAnswer : TextMode → Reading → Detail → Type 0
 IsAnswer mode (NoTree fault) answer = answer ≡ D.TreeRefused fault
 IsAnswer mode (NoText fault) answer = answer ≡ D.SyntaxRefused fault
 IsAnswer (Prove budget) (OneSystem p) answer = IsVerdict p budget answer
@@ -176,7 +176,7 @@ report_of (OneCheck c) answer = check_report answer
 report_of (OneReplay r) answer = replay_report r.system answer
 
 -- these bytes have this answer, with this report on standard output
-pub record IsAnswered (mode : Mode) (bytes : List ℕ) (answer : Detail) (out : List ℕ) : Type 0 where
+pub record IsAnswered (mode : TextMode) (bytes : List ℕ) (answer : Detail) (out : List ℕ) : Type 0 where
   pub reading : Reading
   pub reads : Reads (language_of mode) bytes reading
   pub is : IsAnswer mode reading answer
@@ -185,7 +185,7 @@ pub record IsAnswered (mode : Mode) (bytes : List ℕ) (answer : Detail) (out : 
 -- ---- the same of parts of the code
 
 -- the answer to a system in a mode, and its report
-abbrev pub IsSystemAnswer : Mode → Parts → Detail → List ℕ → Type 0
+abbrev pub IsSystemAnswer : TextMode → Parts → Detail → List ℕ → Type 0
 IsSystemAnswer mode p answer out = IsAnswer mode (OneSystem p) answer × (out ≡ system_report p answer)
 
 -- the answer to a check, and its report

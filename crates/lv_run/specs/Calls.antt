@@ -9,13 +9,17 @@ use Rattle.lv_system.specs.declared.parts.Parts.{Parts}
 use Rattle.lv_cnf.specs.declared.clause.Clauses.{Clauses}
 use Rattle.lv_decide.specs.Decisions.{AreGroundClauses}
 use Rattle.lv_prove.specs.Outcomes.{IsFirstSpent, count, sentences_at, vocabulary_at}
+use Rattle.lv_prove.specs.declared.outcome.Outcome.TheVariants as O
 use Rattle.lv_command.specs.declared.mode.Mode.{Mode}
+use Rattle.lv_command.specs.declared.mode.Mode.TheVariants.{Make, OnText}
+use Rattle.lv_command.specs.declared.mode.TextMode.{TextMode}
 use Rattle.lv_command.specs.Commands.{mode_of}
 use Rattle.lv_run.specs.declared.detail.Detail.{Detail}
 use Rattle.lv_run.specs.declared.detail.Detail.TheVariants as D
 use Rattle.lv_check.specs.declared.checking.Checked.TheVariants as C
 use Rattle.lv_replay.specs.declared.answer.ReplayAnswer.TheVariants as L
 use Rattle.lv_run.specs.Answers.{Reading, Reads, IsAnswer, IsAnswered, language_of}
+use Rattle.lv_run.specs.Chains.{IsChainAnswer, IsChainAnswered}
 use Rattle.lv_run.specs.Refusals.{tree_refusal_text, syntax_refusal_text}
 
 -- ---- words
@@ -28,14 +32,23 @@ mode_in words = mode_of (map (λ word. string_bytes word) words)
 abbrev pub AskFor : Mode → List (String Global) → Type 0
 AskFor mode words = mode_in words ≡ Some mode
 
--- the words ask for some mode
-pub record AreCommand (words : List (String Global)) : Type 0 where
-  pub mode : Mode
-  pub asked : AskFor mode words
+-- the words ask something of a text
+pub record AskOfText (words : List (String Global)) : Type 0 where
+  pub mode : TextMode
+  pub asked : AskFor (OnText mode) words
+
+-- the words ask for a chain
+pub record AskForChain (words : List (String Global)) : Type 0 where
+  pub places : ℕ
+  pub asked : AskFor (Make places) words
 
 -- the command doesn't take the words
 abbrev pub AreNoCommand : List (String Global) → Type 0
 AreNoCommand words = mode_in words ≡ None
+
+-- the words need no text
+abbrev pub NeedNoText : List (String Global) → Type 0
+NeedNoText words = AreNoCommand words ⊎ AskForChain words
 
 -- ---- what is composed for an answer
 
@@ -47,6 +60,8 @@ status_of (D.Checked C.Breaks) = 0
 status_of (D.Checked _) = 1
 status_of (D.Replayed L.Satisfies) = 0
 status_of (D.Replayed _) = 1
+status_of (D.Made obligations largest (O.Proved n)) = 0
+status_of (D.Made obligations largest _) = 1
 status_of (D.Counter index w) = 1
 status_of D.Usage = 2
 status_of D.TooLong = 3
@@ -65,11 +80,12 @@ told_of (D.Proved obligations) = []
 told_of D.Shown = []
 told_of (D.Checked checked) = []
 told_of (D.Replayed answer) = []
+told_of (D.Made obligations largest answer) = []
 told_of (D.Counter index w) = []
 told_of (D.NotStratified index sorts) = []
 told_of (D.TooLarge index) = []
 told_of (D.Spent index log) = []
-told_of D.Usage = codes "usage: leadsto prove [--budget N] | show | check | replay\n"
+told_of D.Usage = codes "usage: leadsto prove [--budget N] | show | check | replay | make N\n"
 told_of D.TooLong = codes "text too long\n"
 told_of (D.TreeRefused fault) = tree_refusal_text fault
 told_of (D.SyntaxRefused fault) = syntax_refusal_text fault
@@ -82,13 +98,19 @@ pub record AreRead (left : Option (List ℕ)) (bytes : List ℕ) : Type 0 where
   pub all : IfSome left (λ told. told ≡ bytes)
   pub few : length bytes ≤ 1048576
 
--- the words ask for a mode, and the bytes that were read have this answer in it
+-- the words ask something of a text, and the bytes that were read have this answer to it
 pub record IsReadAnswer (words : List (String Global)) (left : Option (List ℕ)) (answer : Detail) (out : List ℕ) : Type 0 where
-  pub mode : Mode
-  pub asked : AskFor mode words
+  pub mode : TextMode
+  pub asked : AskFor (OnText mode) words
   pub bytes : List ℕ
   pub read : AreRead left bytes
   pub answered : IsAnswered mode bytes answer out
+
+-- the words ask for a chain that has this answer
+pub record IsMadeAnswer (words : List (String Global)) (answer : Detail) (out : List ℕ) : Type 0 where
+  pub places : ℕ
+  pub asked : AskFor (Make places) words
+  pub answered : IsChainAnswered places answer out
 
 -- what is composed for an answer on standard output, and why it is this answer. A write fault isn't
 -- composed, and want of memory has no cause here.
@@ -101,11 +123,12 @@ IsComposed words left (D.Spent index log) out = IsReadAnswer words left (D.Spent
 IsComposed words left D.Shown out = IsReadAnswer words left D.Shown out
 IsComposed words left (D.Checked checked) out = IsReadAnswer words left (D.Checked checked) out
 IsComposed words left (D.Replayed answer) out = IsReadAnswer words left (D.Replayed answer) out
+IsComposed words left (D.Made obligations largest answer) out = IsMadeAnswer words (D.Made obligations largest answer) out
 IsComposed words left (D.TreeRefused fault) out = IsReadAnswer words left (D.TreeRefused fault) out
 IsComposed words left (D.SyntaxRefused fault) out = IsReadAnswer words left (D.SyntaxRefused fault) out
 IsComposed words left D.Usage out = AreNoCommand words × (out ≡ [])
-IsComposed words left D.TooLong out = AreCommand words × IfSome left (λ told. 1048576 < length told) × (out ≡ [])
-IsComposed words left D.ReadFault out = AreCommand words × (out ≡ [])
+IsComposed words left D.TooLong out = AskOfText words × IfSome left (λ told. 1048576 < length told) × (out ≡ [])
+IsComposed words left D.ReadFault out = AskOfText words × (out ≡ [])
 IsComposed words left D.MemoryWanting out = out ≡ []
 IsComposed words left D.WriteFault out = ⊥
 
@@ -133,16 +156,22 @@ pub record IsRead (Is : List ℕ → Type 0) (bytes : List ℕ) : Type 0 where
   pub is : Is bytes
 
 -- the bytes come to something that has this answer in this mode
-pub record HasAnswer (mode : Mode) (answer : Detail) (bytes : List ℕ) : Type 0 where
+pub record HasAnswer (mode : TextMode) (answer : Detail) (bytes : List ℕ) : Type 0 where
   pub reading : Reading
   pub reads : Reads (language_of mode) bytes reading
   pub is : IsAnswer mode reading answer
 
--- the words ask for a mode, and the text has this answer in it
+-- the words ask something of a text, and the text has this answer to it
 pub record IsCaused (words : List (String Global)) (left : Option (List ℕ)) (answer : Detail) : Type 0 where
-  pub mode : Mode
-  pub asked : AskFor mode words
+  pub mode : TextMode
+  pub asked : AskFor (OnText mode) words
   pub text : IfSome left (IsRead (HasAnswer mode answer))
+
+-- the words ask for a chain, and this is the answer to it
+pub record IsMade (words : List (String Global)) (answer : Detail) : Type 0 where
+  pub places : ℕ
+  pub asked : AskFor (Make places) words
+  pub is : IsChainAnswer places answer
 
 abbrev pub HasReason : List (String Global) → Option (List ℕ) → Detail → Type 0
 HasReason words left (D.Proved obligations) = IsCaused words left (D.Proved obligations)
@@ -153,18 +182,19 @@ HasReason words left (D.Spent index log) = IsCaused words left (D.Spent index lo
 HasReason words left D.Shown = IsCaused words left D.Shown
 HasReason words left (D.Checked checked) = IsCaused words left (D.Checked checked)
 HasReason words left (D.Replayed answer) = IsCaused words left (D.Replayed answer)
+HasReason words left (D.Made obligations largest answer) = IsMade words (D.Made obligations largest answer)
 HasReason words left (D.TreeRefused fault) = IsCaused words left (D.TreeRefused fault)
 HasReason words left (D.SyntaxRefused fault) = IsCaused words left (D.SyntaxRefused fault)
 HasReason words left D.Usage = AreNoCommand words
-HasReason words left D.TooLong = AreCommand words × IfSome left (λ told. 1048576 < length told)
-HasReason words left D.ReadFault = AreCommand words
+HasReason words left D.TooLong = AskOfText words × IfSome left (λ told. 1048576 < length told)
+HasReason words left D.ReadFault = AskOfText words
 HasReason words left D.WriteFault = Unit {0}
 HasReason words left D.MemoryWanting = Unit {0}
 
 -- ---- what a source has left
 
 -- A text that was answered was read to its end, and one that is too long up to one byte past the limit.
--- Where the answer is the usage line nothing was read, and else no more than that.
+-- Where the answer is the usage line or a chain nothing was read, and else no more than that.
 abbrev pub IsLeft : Detail → Option (List ℕ) → Option (List ℕ) → Type 0
 IsLeft (D.Proved obligations) before now = IsAtEnd now
 IsLeft (D.Counter index w) before now = IsAtEnd now
@@ -174,6 +204,7 @@ IsLeft (D.Spent index log) before now = IsAtEnd now
 IsLeft D.Shown before now = IsAtEnd now
 IsLeft (D.Checked checked) before now = IsAtEnd now
 IsLeft (D.Replayed answer) before now = IsAtEnd now
+IsLeft (D.Made obligations largest answer) before now = now ≡ before
 IsLeft (D.TreeRefused fault) before now = IsAtEnd now
 IsLeft (D.SyntaxRefused fault) before now = IsAtEnd now
 IsLeft D.Usage before now = now ≡ before
@@ -206,6 +237,7 @@ IsOrFault Is (D.Spent index log) = Is (D.Spent index log)
 IsOrFault Is D.Shown = Is D.Shown
 IsOrFault Is (D.Checked checked) = Is (D.Checked checked)
 IsOrFault Is (D.Replayed answer) = Is (D.Replayed answer)
+IsOrFault Is (D.Made obligations largest answer) = Is (D.Made obligations largest answer)
 IsOrFault Is (D.TreeRefused fault) = Is (D.TreeRefused fault)
 IsOrFault Is (D.SyntaxRefused fault) = Is (D.SyntaxRefused fault)
 IsOrFault Is D.Usage = Is D.Usage
@@ -238,3 +270,10 @@ IsUsageOrFault D.Usage = Unit {0}
 IsUsageOrFault D.WriteFault = Unit {0}
 IsUsageOrFault D.MemoryWanting = Unit {0}
 IsUsageOrFault _ = ⊥
+
+-- where a chain is made nothing is read either
+abbrev pub IsChainOrFault : ℕ → Detail → Type 0
+IsChainOrFault places (D.Made obligations largest answer) = IsChainAnswer places (D.Made obligations largest answer)
+IsChainOrFault places D.WriteFault = Unit {0}
+IsChainOrFault places D.MemoryWanting = Unit {0}
+IsChainOrFault places _ = ⊥

@@ -3,7 +3,7 @@ ghost use Rattle.std.specs.Prelude.{◌≡◌, ◌≤◌, ◌<◌, true, [], IfO
 ghost use Rattle.lv_system.specs.declared.parts.Parts.{Parts};
 ghost use Rattle.lv_grammar.specs.LabelLimits.{labels_keep_limits};
 ghost use Rattle.lv_grammar.specs.Spelling.{Spells};
-ghost use Rattle.lv_command.specs.Commands.{IsInRange};
+ghost use Rattle.lv_command.specs.Commands.{HasBudgetInRange};
 ghost use Rattle.lv_run.specs.Answers.{IsAnswered, IsCheckAnswered, IsRefusal, IsReplayAnswered, IsSystemAnswer, detail_of};
 ghost use Rattle.lv_run.specs.Calls.{told_of};
 ghost use Rattle.lv_run.specs.ErrorTexts.{error_bytes};
@@ -15,7 +15,7 @@ use crate::reader::{Refusal, check_text, replay_text, system_text};
 use crate::refusals::{syntax_refusal, tree_refusal};
 use crate::requests::{CheckRequest, ReplayRequest};
 use crate::verdicts::{checked, checked_report, replayed, replayed_report};
-use lv_command::Mode;
+use lv_command::TextMode;
 use lv_formula::Memory;
 use lv_show::show;
 use lv_system::System;
@@ -70,7 +70,7 @@ pub(crate) fn told(alloc: Global, detail: Detail, err: &'static [u8]) -> Compose
 }
 
 /// An answer with a report on standard output alone.
-fn reported(detail: Detail, out: List<u8>) -> Composed
+pub(crate) fn reported(detail: Detail, out: List<u8>) -> Composed
     requires { told_of detail ≡ [] }
     ensures detail { result.detail ≡ detail }
     ensures out { result.out ≡ out }
@@ -95,7 +95,7 @@ fn reported_on(it: Reported) -> Composed
 fn prove_system(alloc: Global, system: &System, budget: u32) -> Result<Composed, Memory>
     requires labels { labels_keep_limits system.now ≡ true }
     requires budget { 0 < budget }
-    ensures { IfOk result (λ composed. IsSystemAnswer (Mode.Prove budget) system.now composed.detail composed.out) }
+    ensures { IfOk result (λ composed. IsSystemAnswer (TextMode.Prove budget) system.now composed.detail composed.out) }
 {
     let reported = prove_reported(alloc, system, budget)?;
     Ok(reported_on(reported))
@@ -103,7 +103,7 @@ fn prove_system(alloc: Global, system: &System, budget: u32) -> Result<Composed,
 
 /// The answer of `show` to a system.
 fn show_system(alloc: Global, system: &System) -> Result<Composed, Memory>
-    ensures { IfOk result (λ composed. IsSystemAnswer Mode.Show system.now composed.detail composed.out) }
+    ensures { IfOk result (λ composed. IsSystemAnswer TextMode.Show system.now composed.detail composed.out) }
 {
     Ok(reported(Detail::Shown, show(alloc, system)?))
 }
@@ -151,7 +151,7 @@ fn refuse(alloc: Global, refusal: Refusal) -> Result<Composed, Memory>
 fn prove_text(alloc: Global, bytes: &[u8], budget: u32) -> Result<Composed, Memory>
     requires few { length bytes.now ≤ 1048576 }
     requires budget { 0 < budget }
-    ensures { IfOk result (λ composed. IsAnswered (Mode.Prove budget) bytes.now composed.detail composed.out) }
+    ensures { IfOk result (λ composed. IsAnswered (TextMode.Prove budget) bytes.now composed.detail composed.out) }
 {
     match system_text(alloc, bytes) {
         Ok(system) => prove_system(alloc, &system, budget),
@@ -162,7 +162,7 @@ fn prove_text(alloc: Global, bytes: &[u8], budget: u32) -> Result<Composed, Memo
 /// The answer of `show` to a text of at most 1,048,576 bytes.
 fn show_text(alloc: Global, bytes: &[u8]) -> Result<Composed, Memory>
     requires { length bytes.now ≤ 1048576 }
-    ensures { IfOk result (λ composed. IsAnswered Mode.Show bytes.now composed.detail composed.out) }
+    ensures { IfOk result (λ composed. IsAnswered TextMode.Show bytes.now composed.detail composed.out) }
 {
     match system_text(alloc, bytes) {
         Ok(system) => show_system(alloc, &system),
@@ -173,7 +173,7 @@ fn show_text(alloc: Global, bytes: &[u8]) -> Result<Composed, Memory>
 /// The answer of `check` to a text of at most 1,048,576 bytes.
 fn check_bytes(alloc: Global, bytes: &[u8]) -> Result<Composed, Memory>
     requires { length bytes.now ≤ 1048576 }
-    ensures { IfOk result (λ composed. IsAnswered Mode.Check bytes.now composed.detail composed.out) }
+    ensures { IfOk result (λ composed. IsAnswered TextMode.Check bytes.now composed.detail composed.out) }
 {
     match check_text(alloc, bytes) {
         Ok(request) => check_structure(alloc, request),
@@ -184,7 +184,7 @@ fn check_bytes(alloc: Global, bytes: &[u8]) -> Result<Composed, Memory>
 /// The answer of `replay` to a text of at most 1,048,576 bytes.
 fn replay_bytes(alloc: Global, bytes: &[u8]) -> Result<Composed, Memory>
     requires { length bytes.now ≤ 1048576 }
-    ensures { IfOk result (λ composed. IsAnswered Mode.Replay bytes.now composed.detail composed.out) }
+    ensures { IfOk result (λ composed. IsAnswered TextMode.Replay bytes.now composed.detail composed.out) }
 {
     match replay_text(alloc, bytes) {
         Ok(request) => replay_lasso(alloc, request),
@@ -193,15 +193,15 @@ fn replay_bytes(alloc: Global, bytes: &[u8]) -> Result<Composed, Memory>
 }
 
 /// The answer to a text of at most 1,048,576 bytes. The error is want of memory.
-pub(crate) fn answer(alloc: Global, mode: Mode, bytes: &[u8]) -> Result<Composed, Memory>
+pub(crate) fn answer(alloc: Global, mode: TextMode, bytes: &[u8]) -> Result<Composed, Memory>
     requires few { length bytes.now ≤ 1048576 }
-    requires range { IsInRange mode }
+    requires range { HasBudgetInRange mode }
     ensures { IfOk result (λ composed. IsAnswered mode bytes.now composed.detail composed.out) }
 {
     match mode {
-        Mode::Prove { budget } => prove_text(alloc, bytes, budget),
-        Mode::Show => show_text(alloc, bytes),
-        Mode::Check => check_bytes(alloc, bytes),
-        Mode::Replay => replay_bytes(alloc, bytes),
+        TextMode::Prove { budget } => prove_text(alloc, bytes, budget),
+        TextMode::Show => show_text(alloc, bytes),
+        TextMode::Check => check_bytes(alloc, bytes),
+        TextMode::Replay => replay_bytes(alloc, bytes),
     }
 }

@@ -15,21 +15,41 @@ use lv_tree::TreeFault;
 #[derive(Debug, Drop)]
 pub enum Detail {
     /// All obligations of the system are valid; there are so many.
-    Proved { obligations: u32 },
+    Proved {
+        obligations: u32,
+    },
     /// This obligation is the first that isn't valid, and the structure breaks it. It has at most 256 elements in each sort.
-    Counter { index: u32, structure: Structure },
+    Counter {
+        index: u32,
+        structure: Structure,
+    },
     /// This obligation is the first whose sort graph has a cycle, and this is one.
-    NotStratified { index: u32, sorts: List<SortId> },
+    NotStratified {
+        index: u32,
+        sorts: List<SortId>,
+    },
     /// No sort graph has a cycle, and this obligation is the first whose size is above 4,000,000.
-    TooLarge { index: u32 },
+    TooLarge {
+        index: u32,
+    },
     /// The obligations before this one are valid. At this one the solver learned these clauses, as many as the budget allows.
-    Spent { index: u32, log: Log },
+    Spent {
+        index: u32,
+        log: Log,
+    },
     /// The system was shown.
     Shown,
     /// The structure was checked against the obligation.
     Checked(Checked),
     /// The lasso was replayed.
     Replayed(ReplayAnswer),
+    /// A chain was made. It has so many obligations. The largest size of one is as `survey` tells it, and 0 where it tells
+    /// none. What became of them is the answer of `prove` with a budget of 100,000.
+    Made {
+        obligations: u32,
+        largest: u64,
+        answer: Outcome,
+    },
     /// The command doesn't take the words.
     Usage,
     /// Reading the text failed.
@@ -68,8 +88,15 @@ impl Detail {
             Detail::Proved { .. }
             | Detail::Shown
             | Detail::Checked(Checked::Breaks)
-            | Detail::Replayed(ReplayAnswer::Satisfies) => 0,
-            Detail::Counter { .. } | Detail::Checked(_) | Detail::Replayed(_) => 1,
+            | Detail::Replayed(ReplayAnswer::Satisfies)
+            | Detail::Made {
+                answer: Outcome::Proved { .. },
+                ..
+            } => 0,
+            Detail::Counter { .. }
+            | Detail::Checked(_)
+            | Detail::Replayed(_)
+            | Detail::Made { .. } => 1,
             Detail::Usage => 2,
             Detail::TooLong | Detail::TreeRefused(_) | Detail::SyntaxRefused(_) => 3,
             Detail::NotStratified { .. } => 4,

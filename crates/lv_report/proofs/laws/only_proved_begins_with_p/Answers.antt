@@ -11,5 +11,6 @@ returns c = record {
   hypothesis_fails = λ number. refl;
   axiom_fails = λ number. refl;
   guard_fails = λ step. refl;
+  made = λ p obligations largest answer. refl;
   unfair = λ p fair. refl;
 }

@@ -1,4 +1,4 @@
-use Rattle.lv_command.specs.declared.mode.Mode.TheVariants.{Check}
+use Rattle.lv_command.specs.declared.mode.TextMode.TheVariants.{Check}
 use Rattle.lv_run.specs.Requests.{check_seen}
 use Rattle.lv_run.proofs.AnswerLemmas.{check_answered, refusal_answered}
 use Rattle.lv_run.proofs.answer.check_bytes.Goals as goal

@@ -1,4 +1,4 @@
-use Rattle.lv_command.specs.declared.mode.Mode.TheVariants.{Prove}
+use Rattle.lv_command.specs.declared.mode.TextMode.TheVariants.{Prove}
 use Rattle.lv_run.proofs.AnswerLemmas.{proof_answered, refusal_answered}
 use Rattle.lv_run.proofs.answer.prove_text.Goals as goal
 

@@ -1,4 +1,4 @@
-use Rattle.lv_command.specs.declared.mode.Mode.TheVariants.{Replay}
+use Rattle.lv_command.specs.declared.mode.TextMode.TheVariants.{Replay}
 use Rattle.lv_run.specs.Requests.{replay_seen}
 use Rattle.lv_run.proofs.AnswerLemmas.{replay_answered, refusal_answered}
 use Rattle.lv_run.proofs.answer.replay_bytes.Goals as goal

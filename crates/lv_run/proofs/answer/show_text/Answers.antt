@@ -1,4 +1,4 @@
-use Rattle.lv_command.specs.declared.mode.Mode.TheVariants.{Show}
+use Rattle.lv_command.specs.declared.mode.TextMode.TheVariants.{Show}
 use Rattle.lv_run.proofs.AnswerLemmas.{layout_answered, refusal_answered}
 use Rattle.lv_run.proofs.answer.show_text.Goals as goal
 

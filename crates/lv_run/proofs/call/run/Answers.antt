@@ -1,6 +1,6 @@
 use Rattle.lv_run.proofs.CallLemmas as Lemmas
-use Rattle.lv_run.proofs.HeadlineLemmas.{headline, reason_delivered}
-use Rattle.lv_command.specs.declared.mode.Mode.TheVariants.{Prove}
+use Rattle.lv_run.proofs.HeadlineLemmas.{chain_headline, headline, reason_delivered}
+use Rattle.lv_command.specs.declared.mode.TextMode.TheVariants.{Prove}
 use Rattle.lv_run.specs.Answers.{OneSystem}
 use Rattle.lv_run.proofs.call.run.Goals as goal
 
@@ -9,6 +9,16 @@ returns-clause-headline g c = λ b. headline c.args.words.now (g.S.Source.left c
 
 pub returns-clause-reason : goal.returns-clause-reason
 returns-clause-reason g c = reason_delivered c.args.words.now (g.S.Source.left c.args.source.now) c.compose.result.detail c.deliver.result.detail c.compose.result.out (g.O.Sink.written c.args.out.now) (g.O.Sink.written c.deliver.new.out) (g.E.Sink.written c.args.err.now) (g.E.Sink.written c.deliver.new.err) c.compose.ensures.texts c.deliver.ensures.delivered
+
+pub returns-clause-chain : goal.returns-clause-chain
+returns-clause-chain g c =
+    let why = reason_delivered c.args.words.now (g.S.Source.left c.args.source.now) c.compose.result.detail c.deliver.result.detail c.compose.result.out (g.O.Sink.written c.args.out.now) (g.O.Sink.written c.deliver.new.out) (g.E.Sink.written c.args.err.now) (g.E.Sink.written c.deliver.new.err) c.compose.ensures.texts c.deliver.ensures.delivered in
+    chain_headline c.args.words.now (g.S.Source.left c.args.source.now) c.deliver.result.detail why
+
+pub returns-clause-only_chain : goal.returns-clause-only_chain
+returns-clause-only_chain g c =
+    let why = reason_delivered c.args.words.now (g.S.Source.left c.args.source.now) c.compose.result.detail c.deliver.result.detail c.compose.result.out (g.O.Sink.written c.args.out.now) (g.O.Sink.written c.deliver.new.out) (g.E.Sink.written c.args.err.now) (g.E.Sink.written c.deliver.new.err) c.compose.ensures.texts c.deliver.ensures.delivered in
+    Lemmas.only_chain c.args.words.now (g.S.Source.left c.args.source.now) c.deliver.result.detail why
 
 pub returns-clause-only_answer : goal.returns-clause-only_answer
 returns-clause-only_answer g c =

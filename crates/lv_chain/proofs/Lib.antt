@@ -1,0 +1,3 @@
+pub mod EachLaw
+pub mod FitsLaw
+pub mod PlainLaws
