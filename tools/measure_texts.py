@@ -66,7 +66,8 @@ def figures(sizes, text):
 
 def row(name, count, largest, time, memory, answer):
     size = "" if largest is None else f"{largest:,}"
-    print(f"| {name} | {answer} | {count:,} | {size} | {time:.2f} | {memory / 1024:.1f} |", flush=True)
+    seconds = f"{time:.2f}" if time >= 0.01 else "< 0.01"
+    print(f"| {name} | {answer} | {count:,} | {size} | {seconds} | {memory / 1024:.1f} |", flush=True)
 
 
 def chain_row(program, places, repeats):
