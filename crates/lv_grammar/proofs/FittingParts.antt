@@ -43,7 +43,7 @@ pub small_temporal_lists : (f : Temporal) → is_small_temporal f ≡ true → t
 small_temporal_lists f h =
     leb-true _ _ (and_parts (leb (temporal_iffs_of f) 2) (leb (temporal_lists_of f) in_item) (and_parts (leb (temporal_nodes_of f) 1024) _ h).1).1
 
-few_of_shape : (n : ℕ) (ss : List Symbol) (k : ℕ) → shapes_fit n ss ≡ true → length (arguments_of (slice_get ss k)) ≤ 4
+pub few_of_shape : (n : ℕ) (ss : List Symbol) (k : ℕ) → shapes_fit n ss ≡ true → length (arguments_of (slice_get ss k)) ≤ 4
 few_of_shape n [] k h = omega arith
 few_of_shape n (s ∷ ss) zero h = go s.shape (and_parts (shape_fits n s.shape) (shapes_fit n ss) h).0 where
   go : (shape : Shape) → shape_fits n shape ≡ true → length (arguments_of (Some (record { name = []; shape = shape; fixed = false }))) ≤ 4

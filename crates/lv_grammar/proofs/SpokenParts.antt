@@ -4,7 +4,6 @@ use Rattle.std.specs.List.{list_all}
 use Rattle.std.proofs.lemmas.List.{length-take}
 use Rattle.std.proofs.lemmas.List.Folds.{list_all-append}
 use Rattle.std.proofs.lemmas.Bool.{and_parts, and_from, leb-true}
-use Rattle.lv_tree.specs.declared.tree.Tree.{Tree}
 use Rattle.lv_formula.specs.declared.symbols.SortId.{SortId}
 use Rattle.lv_formula.specs.declared.symbols.Sym.{Sym}
 use Rattle.lv_formula.specs.declared.symbols.Sym.TheVariants.{Own, Witness, Label, Touched, Kept, Due, Copy, CopyLabel}
@@ -27,7 +26,6 @@ use Rattle.lv_labels.specs.declared.key.Key.{Key}
 use Rattle.lv_labels.specs.Labels.{labels_of}
 use Rattle.lv_grammar.specs.Lifted.{lifted}
 use Rattle.lv_grammar.specs.LabelLimits.{label_shapes, label_relations, spoken_vocabulary, invariants_fit_in, labels_keep_limits, are_narrow}
-use Rattle.lv_grammar.specs.Spelling.{SpellsSystem}
 use Rattle.lv_grammar.specs.HaveWords.{has_word, has_words, invariants_have_words}
 use Rattle.lv_grammar.proofs.Lifting.{fits_lifted}
 use Rattle.lv_grammar.proofs.SymbolWords.{HaveNames, have_names, short_sort, short_text, own_has_word, copy_has_word, witness_has_word, touched_has_word, kept_has_word, due_has_word, label_has_word, label_copy_has_word}
@@ -176,6 +174,3 @@ limits_have_words p fits h =
     let c = and_parts _ _ b.1 in
     let d = and_parts _ (invariants_fit_in (spoken_vocabulary p) p.invariants) c.1 in
     invariants_spoken p (spoken_vocabulary p) (all_spoken p (have_names p (tests p fits).names) (fitting p fits).few.fairs (leb-true (length (labels_of p)) 32 a.0)) p.invariants d.1
-
-pub spelled_has_words : (p : Parts) (t : Tree) → SpellsSystem p t → invariants_have_words p p.invariants ≡ true
-spelled_has_words p t s = limits_have_words p s.fits s.labels

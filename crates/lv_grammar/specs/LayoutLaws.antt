@@ -1,35 +1,19 @@
 -- What holds of what is shown, whatever the system.
 use Rattle.std.specs.Prelude.{◌≡◌, ℕ, ◌≤◌, true, IsTrue}
 use Rattle.std.specs.List.{All}
-use Rattle.lv_tree.specs.declared.tree.Tree.{Tree}
 use Rattle.lv_tree.specs.Spelling.{all_fit_in}
-use Rattle.lv_tree.specs.Writing.{bare}
 use Rattle.lv_formula.specs.declared.formula.Formula.{Formula}
 use Rattle.lv_system.specs.declared.parts.Parts.{Parts}
 use Rattle.lv_system.specs.declared.parts.ActionUpdate.{ActionUpdate}
 use Rattle.lv_system.specs.declared.parts.ActionUpdate.TheVariants.{Relation, Constant}
 use Rattle.lv_system.specs.Fits.{fits_parts}
-use Rattle.lv_grammar.specs.Spelling.{SpellsSystem, Spells}
 use Rattle.lv_grammar.specs.Lifted.{lifted}
 use Rattle.lv_grammar.specs.HaveWords.{has_words, invariants_have_words}
-use Rattle.lv_grammar.specs.ShownSystems.{shown_items, shown_system}
-use Rattle.lv_grammar.specs.Layout.{shown_text}
-
--- where some tree spells the system, so does each that is the shown one but for places
-abbrev pub ShownIsSpelled : Type 0
-ShownIsSpelled = (p : Parts) (t u : Tree) → SpellsSystem p t → bare u ≡ bare (shown_system p) → SpellsSystem p u
+use Rattle.lv_grammar.specs.ShownSystems.{shown_items}
 
 -- each word of the items has 1 to 64 word bytes, and lists in them nest at most 59 deep
 abbrev pub ShownFits : Type 0
 ShownFits = (p : Parts) → fits_parts p ≡ true → invariants_have_words p p.invariants ≡ true → (room : ℕ) → 59 ≤ room → IsTrue (all_fit_in room (shown_items p))
-
--- where some tree spells the system, the symbols of its invariants have words
-abbrev pub SpelledHasWords : Type 0
-SpelledHasWords = (p : Parts) (t : Tree) → SpellsSystem p t → invariants_have_words p p.invariants ≡ true
-
--- where some tree spells the system, so do the bytes that are shown
-abbrev pub ShownTextSpells : Type 0
-ShownTextSpells = (p : Parts) (t : Tree) → SpellsSystem p t → Spells (shown_text p) p
 
 -- each symbol and each sort in the formula has a word of at most 64 bytes
 abbrev pub CanBeShown : Parts → Formula → Type 0
@@ -51,7 +35,3 @@ pub record FormulasCanBeShown (p : Parts) : Type 0 where
 -- where the parts fit and the symbols of the invariants have words, each formula can be shown
 abbrev pub FittingCanBeShown : Type 0
 FittingCanBeShown = (p : Parts) → fits_parts p ≡ true → invariants_have_words p p.invariants ≡ true → FormulasCanBeShown p
-
--- where some tree spells the system, each of its formulas can be shown
-abbrev pub SpelledCanBeShown : Type 0
-SpelledCanBeShown = (p : Parts) (t : Tree) → SpellsSystem p t → FormulasCanBeShown p

@@ -1,9 +1,20 @@
+pub mod Agrees
 pub mod Grammar
 pub mod HaveWords
+pub mod Known
+pub mod KnownNames
+pub mod KnownOf
 pub mod LabelLimits
+pub mod Labelling
 pub mod Layout
 pub mod LayoutLaws
 pub mod Lifted
+pub mod ReadFormulas
+pub mod ReadItems
+pub mod ReadWords
+pub mod Reading
+pub mod Rules
+pub mod Sections
 pub mod ShownFormulas
 pub mod ShownStructures
 pub mod ShownSystems
@@ -12,4 +23,5 @@ pub mod StructureLaws
 pub mod Structures
 pub mod Tables
 pub mod Trees
+pub mod WordKinds
 pub mod Words

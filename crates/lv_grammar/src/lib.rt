@@ -7,4 +7,5 @@
 #![tactic(auto)]
 
 pub mod laws;
+pub mod reading;
 pub mod words;

@@ -9,6 +9,7 @@ use Rattle.lv_labels.specs.Problem.{problem_of}
 use Rattle.lv_temporal.proofs.Listed.{true_labels}
 use Rattle.lv_temporal.proofs.Scoped.{scoped}
 use Rattle.lv_grammar.specs.Spelling.{Spells, SpellsSystem}
+use Rattle.lv_fitting.proofs.SystemFits.{system_fits, system_limited}
 use Rattle.lv_labels.specs.Obligations.{AreValid, InvariantsFit}
 use Rattle.lv_temporal.proofs.Bound.{bounded, bounded_positions}
 use Rattle.lv_temporal.proofs.ProblemFits.{kept_and_free, problem_fits}
@@ -18,7 +19,7 @@ use Rattle.lv_headline.proofs.ChainLimits.{chain_keeps_limits}
 use Rattle.lv_headline.proofs.Spoken.{invariants_stand}
 
 pub spelled_stand : (p : Parts) (tree : Tree) → SpellsSystem p tree → InvariantsFit p
-spelled_stand p tree spelled = invariants_stand p spelled.labels
+spelled_stand p tree spelled = invariants_stand p (system_limited p tree spelled)
 
 -- of parts that fit, with invariants that stand over the words of the monitored structure
 fitting_holds : (p : Parts) → fits_parts p ≡ true → InvariantsFit p → AreValid p → HoldsAtAllSizes p
@@ -31,7 +32,7 @@ fitting_holds p fits stand valid =
     }
 
 pub system_holds : (p : Parts) (tree : Tree) → SpellsSystem p tree → AreValid p → HoldsAtAllSizes p
-system_holds p tree spelled valid = fitting_holds p spelled.fits (spelled_stand p tree spelled) valid
+system_holds p tree spelled valid = fitting_holds p (system_fits p tree spelled) (spelled_stand p tree spelled) valid
 
 pub text_holds : (bytes : List ℕ) (p : Parts) → Spells bytes p → AreValid p → HoldsAtAllSizes p
 text_holds bytes p text valid = system_holds p text.tree text.system valid

@@ -11,14 +11,14 @@ use Rattle.lv_system.specs.Names.{same_text}
 use Rattle.lv_system.specs.Step.{action_at, no_action}
 use Rattle.lv_system.specs.Vocabularies.{own_vocabulary}
 use Rattle.lv_grammar.specs.Grammar.{Each, IsList, IsWord, first_and_rest, nothing}
-use Rattle.lv_reading.specs.declared.fault.Kind.TheVariants.{Unexpected, TooMany, UnknownName, WrongArity}
-use Rattle.lv_reading.specs.declared.fault.SyntaxFault.{SyntaxFault}
-use Rattle.lv_reading.specs.Given.{◌>>=◌, Worded, fail, headed, list_in, place_of}
+use Rattle.lv_fault.specs.declared.fault.Kind.TheVariants.{Unexpected, TooMany, UnknownName, WrongArity}
+use Rattle.lv_fault.specs.declared.fault.SyntaxFault.{SyntaxFault}
+use Rattle.lv_fault.specs.Given.{◌>>=◌, Worded, fail, headed, list_in, place_of}
 use Rattle.lv_reading.specs.Numbers.{element_in, exactly}
 use Rattle.lv_reading.specs.Structures.{each_element, elements_in, structure_in}
 use Rattle.lv_reading.proofs.Found.{element_found}
-use Rattle.lv_reading.proofs.SameTexts.{same_is}
-use Rattle.lv_reading.proofs.Steps.{bound, head_found, nothing_left, ok_is, one_more, passed}
+use Rattle.lv_grammar.proofs.SameTexts.{same_is}
+use Rattle.lv_grammar.proofs.Steps.{bound, head_found, nothing_left, ok_is, one_more, passed}
 use Rattle.lv_reading.proofs.TupleLaws.{in_range}
 use Rattle.lv_replay.specs.declared.lasso.Lasso.{Lasso}
 use Rattle.lv_replay.specs.declared.lasso.StepTaken.{StepTaken}

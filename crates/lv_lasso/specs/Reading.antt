@@ -6,9 +6,9 @@ use Rattle.lv_system.specs.declared.parts.Action.{Action}
 use Rattle.lv_system.specs.Names.{are_name_bytes, begins_small, is_reserved, same_text}
 use Rattle.lv_system.specs.Step.{action_at}
 use Rattle.lv_system.specs.Vocabularies.{own_vocabulary}
-use Rattle.lv_reading.specs.declared.fault.Kind.TheVariants.{Unexpected, TooMany, UnknownName}
-use Rattle.lv_reading.specs.declared.fault.SyntaxFault.{SyntaxFault}
-use Rattle.lv_reading.specs.Given.{◌>>=◌, Worded, ended, fail, headed, list_in, next_of, place_of}
+use Rattle.lv_fault.specs.declared.fault.Kind.TheVariants.{Unexpected, TooMany, UnknownName}
+use Rattle.lv_fault.specs.declared.fault.SyntaxFault.{SyntaxFault}
+use Rattle.lv_fault.specs.Given.{◌>>=◌, Worded, ended, fail, headed, list_in, next_of, place_of}
 use Rattle.lv_reading.specs.Numbers.{exactly}
 use Rattle.lv_reading.specs.Structures.{elements_in, structure_in}
 use Rattle.lv_replay.specs.declared.lasso.Lasso.{Lasso}

@@ -2,17 +2,18 @@
 ghost use Rattle.std.specs.Prelude.{◌≡◌, IfOk};
 ghost use Rattle.lv_struct.specs.Tables.{HasVocabulary};
 ghost use Rattle.lv_system.specs.Vocabularies.{own_vocabulary};
-ghost use Rattle.lv_reading.specs.Given.{Gives};
+ghost use Rattle.lv_fault.specs.Given.{Gives};
 ghost use Rattle.lv_replay.specs.Fits.{LassoFits};
 ghost use Rattle.lv_lasso.specs.Lassos.{SpellsLasso};
 ghost use Rattle.lv_lasso.specs.Reading.{lasso_in};
 
 use crate::steps::{stem, turn};
 use crate::vocabulary::own_vocabulary;
+use lv_fault::ReadText;
+use lv_fault::trees::{finish, head, next};
 use lv_labels::labels_of;
 use lv_reading::numbers::exactly;
-use lv_reading::trees::{finish, head, next};
-use lv_reading::{ReadText, read_structure};
+use lv_reading::read_structure;
 use lv_replay::Lasso;
 use lv_system::System;
 use lv_tree::Tree;

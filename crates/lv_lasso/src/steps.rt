@@ -1,15 +1,16 @@
 //! Steps of a lasso, read from trees.
 ghost use Rattle.std.specs.Prelude.{◌≡◌, ◌<◌, ◌^◌, length};
 ghost use Rattle.lv_system.specs.Step.{action_at};
-ghost use Rattle.lv_reading.specs.Behind.{behind};
-ghost use Rattle.lv_reading.specs.Given.{Fails, Gives};
-ghost use Rattle.lv_reading.specs.Seen.{spelled_seen};
+ghost use Rattle.lv_fault.specs.Behind.{behind};
+ghost use Rattle.lv_fault.specs.Given.{Fails, Gives};
+ghost use Rattle.lv_fault.specs.Seen.{spelled_seen};
 ghost use Rattle.lv_lasso.specs.Reading.{action_in, action_named, looks_like_name, loop_in, past_the_last, stem_in, step_in, steps_in};
 
+use lv_fault::trees::{Spelled, head, list, next, place, refusal};
+use lv_fault::{Kind, ReadText};
 use lv_formula::{List, SortId};
+use lv_reading::elements;
 use lv_reading::numbers::exactly;
-use lv_reading::trees::{Spelled, head, list, next, place, refusal};
-use lv_reading::{Kind, ReadText, elements};
 use lv_replay::StepTaken;
 use lv_struct::Structure;
 use lv_system::{
@@ -93,7 +94,7 @@ fn refuse_step(tree: &Tree) -> ReadText
 }
 
 /// The steps behind those that are done, at most so many of them. One more is `TooMany`, told before what is inside.
-#[tactic(auto, using(lv_reading::proofs::BehindLaws::nothing_more), unfolding(crate::specs::Reading::steps_in))]
+#[tactic(auto, using(lv_fault::proofs::BehindLaws::nothing_more), unfolding(crate::specs::Reading::steps_in))]
 fn steps_after(
     alloc: Global,
     parts: &Parts,

@@ -13,15 +13,15 @@ use Rattle.lv_struct.specs.Tables.{IsInRange, size_of}
 use Rattle.lv_grammar.specs.Grammar.{Each, IsList, IsWord, first_and_rest, nothing}
 use Rattle.lv_grammar.specs.Structures.{IsTuple}
 use Rattle.lv_system.specs.Names.{same_text}
-use Rattle.lv_reading.specs.declared.fault.Kind.TheVariants.{Unexpected, TooMany, WrongArity, WrongSort}
-use Rattle.lv_reading.specs.declared.fault.SyntaxFault.{SyntaxFault}
+use Rattle.lv_fault.specs.declared.fault.Kind.TheVariants.{Unexpected, TooMany, WrongArity, WrongSort}
+use Rattle.lv_fault.specs.declared.fault.SyntaxFault.{SyntaxFault}
 use Rattle.lv_reading.specs.declared.numbers.Numbered.{Numbered}
-use Rattle.lv_reading.specs.Given.{◌>>=◌, Headed, Worded, fail, headed, list_in, place_of, word_in}
+use Rattle.lv_fault.specs.Given.{◌>>=◌, Headed, Worded, fail, headed, list_in, place_of, word_in}
 use Rattle.lv_reading.specs.Numbers.{element_in, element_in_sort, exactly, exactly_in, is_number, number_in, number_of_word, value_from}
 use Rattle.lv_reading.specs.Structures.{constant_entry, each_element, elements_in, relation_entry, size_from, size_in, tuple_in, tuples_in}
 use Rattle.lv_reading.proofs.NumberLaws.{own}
-use Rattle.lv_reading.proofs.SameTexts.{same_is}
-use Rattle.lv_reading.proofs.Steps.{Begins, bound, head_found, list_found, nothing_left, ok_is, one_more, passed, word_found}
+use Rattle.lv_grammar.proofs.SameTexts.{same_is}
+use Rattle.lv_grammar.proofs.Steps.{Begins, bound, head_found, list_found, nothing_left, ok_is, one_more, passed, word_found}
 use Rattle.lv_reading.proofs.TupleLaws.{element_below, in_range}
 
 -- ---- words

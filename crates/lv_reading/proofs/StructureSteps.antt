@@ -15,12 +15,12 @@ use Rattle.lv_struct.specs.Tables.{HasVocabulary, Tables}
 use Rattle.lv_struct.proofs.MeaningLaws.{vocabulary-with_element, vocabulary-with_tuples}
 use Rattle.lv_system.specs.declared.parts.Parts.{Parts}
 use Rattle.lv_grammar.specs.Words.{symbol_word}
-use Rattle.lv_reading.specs.declared.fault.SyntaxFault.{SyntaxFault}
-use Rattle.lv_reading.specs.Given.{◌>>=◌, headed}
+use Rattle.lv_fault.specs.declared.fault.SyntaxFault.{SyntaxFault}
+use Rattle.lv_fault.specs.Given.{◌>>=◌, headed}
 use Rattle.lv_reading.specs.Numbers.{element_in}
-use Rattle.lv_reading.specs.Behind.{front_behind}
+use Rattle.lv_fault.specs.Behind.{front_behind}
 use Rattle.lv_reading.specs.Structures.{constant_entry, entries_in, next_entry, next_size, relation_entry, size_in, sizes_in, with_entry}
-use Rattle.lv_reading.proofs.Steps.{bound, nothing_left, one_more, ok_is}
+use Rattle.lv_grammar.proofs.Steps.{bound, nothing_left, one_more, ok_is}
 use Rattle.lv_reading.proofs.Found.{exact, exact_in, size_found}
 use Rattle.lv_reading.proofs.TupleLaws.{element_below}
 

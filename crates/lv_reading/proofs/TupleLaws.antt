@@ -9,15 +9,15 @@ use Rattle.std.proofs.lemmas.List.Elements.{All-append, All-cons, All-nil}
 use Rattle.lv_tree.specs.declared.tree.Tree.{Tree}
 use Rattle.lv_formula.specs.declared.symbols.SortId.{SortId}
 use Rattle.lv_struct.specs.Tables.{IsInRange, size_of}
-use Rattle.lv_reading.specs.declared.fault.Kind.TheVariants.{WrongArity, WrongSort}
-use Rattle.lv_reading.specs.declared.fault.SyntaxFault.{SyntaxFault}
+use Rattle.lv_fault.specs.declared.fault.Kind.TheVariants.{WrongArity, WrongSort}
+use Rattle.lv_fault.specs.declared.fault.SyntaxFault.{SyntaxFault}
 use Rattle.lv_reading.specs.declared.numbers.Numbered.{Numbered}
-use Rattle.lv_reading.specs.Given.{◌>>=◌, fail}
-use Rattle.lv_reading.specs.Behind.{behind}
+use Rattle.lv_fault.specs.Given.{◌>>=◌, fail}
+use Rattle.lv_fault.specs.Behind.{behind}
 use Rattle.lv_reading.specs.Numbers.{element_in, element_in_sort, number_in}
 use Rattle.lv_reading.specs.Structures.{each_element, elements_in, tuple_in, tuples_in}
-use Rattle.lv_reading.proofs.BehindLaws.{goes_on, nothing_more, one_more}
-use Rattle.lv_reading.proofs.Steps.{bound, ok_is, passed}
+use Rattle.lv_fault.proofs.BehindLaws.{goes_on, nothing_more, one_more}
+use Rattle.lv_grammar.proofs.Steps.{bound, ok_is, passed}
 
 below_size : (size : ℕ) (n : Numbered) (e : ℕ) → element_in_sort size n ≡ Ok e → ltb e size ≡ true
 below_size size n e h = go (ltb n.value size) refl h where

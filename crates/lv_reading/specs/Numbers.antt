@@ -3,10 +3,10 @@ use Rattle.std.specs.Prelude.{ℕ, ◌+◌, ◌-◌, ◌*◌, Bool, false, not, 
 use Rattle.std.specs.Str.{all_ascii_digits}
 use Rattle.lv_tree.specs.declared.tree.Tree.{Tree}
 use Rattle.lv_system.specs.Names.{same_text}
-use Rattle.lv_reading.specs.declared.fault.Kind.TheVariants.{Unexpected, WrongSort}
-use Rattle.lv_reading.specs.declared.fault.SyntaxFault.{SyntaxFault}
+use Rattle.lv_fault.specs.declared.fault.Kind.TheVariants.{Unexpected, WrongSort}
+use Rattle.lv_fault.specs.declared.fault.SyntaxFault.{SyntaxFault}
 use Rattle.lv_reading.specs.declared.numbers.Numbered.{Numbered}
-use Rattle.lv_reading.specs.Given.{◌>>=◌, Worded, fail, fail_if, word_in}
+use Rattle.lv_fault.specs.Given.{◌>>=◌, Worded, fail, fail_if, word_in}
 
 -- the word that the place asks for, and no other
 abbrev pub exactly : List ℕ → Worded → Result (Unit {0}) SyntaxFault

@@ -9,10 +9,10 @@ use Rattle.lv_struct.specs.Changes.{empty_structure, with_element, with_tuples}
 use Rattle.lv_struct.specs.Tables.{Tables, size_of}
 use Rattle.lv_system.specs.declared.parts.Parts.{Parts}
 use Rattle.lv_grammar.specs.Words.{sort_name, symbol_word}
-use Rattle.lv_reading.specs.declared.fault.Kind.TheVariants.{Unexpected, TooMany, WrongArity}
-use Rattle.lv_reading.specs.declared.fault.SyntaxFault.{SyntaxFault}
+use Rattle.lv_fault.specs.declared.fault.Kind.TheVariants.{Unexpected, TooMany, WrongArity}
+use Rattle.lv_fault.specs.declared.fault.SyntaxFault.{SyntaxFault}
 use Rattle.lv_reading.specs.declared.numbers.Numbered.{Numbered}
-use Rattle.lv_reading.specs.Given.{◌>>=◌, ended, fail, fail_if, headed, list_in, next_of, place_of}
+use Rattle.lv_fault.specs.Given.{◌>>=◌, ended, fail, fail_if, headed, list_in, next_of, place_of}
 use Rattle.lv_reading.specs.Numbers.{element_in, exactly, exactly_in, number_in}
 
 -- ---- sizes: (size SORT N)

@@ -1,12 +1,9 @@
-//! What readers of texts share: the faults of a text, and the words and lists of a tree with their places.
+//! Numbers, tuples and structures, read from trees: what a tree spells, or its first fault.
 #![tactic(auto)]
 
-mod fault;
 pub mod numbers;
 mod structures;
-pub mod trees;
 mod tuples;
 
-pub use fault::{Kind, ReadText, SyntaxFault};
 pub use structures::read_structure;
 pub use tuples::elements;

@@ -1,12 +1,12 @@
 //! Words that a place asks for by their bytes, and numbers.
 ghost use Rattle.std.specs.Prelude.{◌≡◌, ◌≤◌, length, true};
 ghost use Rattle.std.specs.Str.{all_ascii_digits};
-ghost use Rattle.lv_reading.specs.Given.{Gives};
-ghost use Rattle.lv_reading.specs.Seen.{spelled_seen};
+ghost use Rattle.lv_fault.specs.Given.{Gives};
+ghost use Rattle.lv_fault.specs.Seen.{spelled_seen};
 ghost use Rattle.lv_reading.specs.Numbers.{element_in, exactly, exactly_in, is_number, number_in, value_from};
 
-use crate::fault::{Kind, ReadText};
-use crate::trees::{Spelled, refusal, refuse_if, word};
+use lv_fault::trees::{Spelled, refusal, refuse_if, word};
+use lv_fault::{Kind, ReadText};
 use lv_system::same_bytes;
 use lv_tree::Tree;
 

@@ -6,13 +6,13 @@ ghost use Rattle.lv_struct.specs.Tables.{HasVocabulary, IsInRange, size_of, sort
 ghost use Rattle.lv_labels.specs.Table.{table_labels};
 ghost use Rattle.lv_grammar.specs.Tables.{IsTable};
 ghost use Rattle.lv_grammar.specs.Words.{sort_name, symbol_word};
-ghost use Rattle.lv_reading.specs.Given.{Gives};
+ghost use Rattle.lv_fault.specs.Given.{Gives};
 ghost use Rattle.lv_reading.specs.Structures.{constant_entry, entries_in, next_entry, next_size, relation_entry, size_from, size_in, sizes_in, structure_in, with_constant, with_entry, with_relation};
 
-use crate::fault::{Kind, ReadText};
 use crate::numbers::{Numbered, element, exactly, exactly_in, number};
-use crate::trees::{finish, head, next, place, refusal, refuse_if};
 use crate::tuples::tuples;
+use lv_fault::trees::{finish, head, next, place, refusal, refuse_if};
+use lv_fault::{Kind, ReadText};
 use lv_formula::{List, Lookup, SortId, Sym, Vocabulary};
 use lv_grammar::words::{Words, sort_name, symbol_word};
 use lv_labels::LabelTable;

@@ -1,20 +1,20 @@
 //! Tuples of elements, each in the range of its sort.
 ghost use Rattle.std.specs.Prelude.{◌≡◌, length, All, IfOk};
 ghost use Rattle.lv_struct.specs.Tables.{IsInRange};
-ghost use Rattle.lv_reading.specs.Given.{Gives, place_of};
+ghost use Rattle.lv_fault.specs.Given.{Gives, place_of};
 ghost use Rattle.lv_reading.specs.Structures.{each_element, elements_in, tuple_in, tuples_in};
-ghost use Rattle.lv_reading.specs.Behind.{behind};
+ghost use Rattle.lv_fault.specs.Behind.{behind};
 
-use crate::fault::{Kind, ReadText};
 use crate::numbers::element;
-use crate::trees::{list, place, refuse_if};
+use lv_fault::trees::{list, place, refuse_if};
+use lv_fault::{Kind, ReadText};
 use lv_formula::{List, SortId};
 use lv_struct::Structure;
 use lv_tree::Tree;
 use std::alloc::Global;
 
 /// An element of each sort, behind the elements that are done. As many items were counted before.
-#[tactic(auto, using(crate::proofs::BehindLaws::nothing_more), unfolding(crate::specs::Structures::each_element))]
+#[tactic(auto, using(lv_fault::proofs::BehindLaws::nothing_more), unfolding(crate::specs::Structures::each_element))]
 fn elements_after(
     m: &Structure,
     mut done: Vec<u32>,
@@ -37,7 +37,7 @@ fn elements_after(
 
 /// The items as elements of these sorts, each in range. Another number of items than of sorts is `WrongArity` at this place,
 /// told before they are read.
-#[tactic(auto, using(crate::proofs::BehindLaws::nothing_done), unfolding(crate::specs::Structures::elements_in))]
+#[tactic(auto, using(lv_fault::proofs::BehindLaws::nothing_done), unfolding(crate::specs::Structures::elements_in))]
 pub fn elements(
     alloc: Global,
     m: &Structure,

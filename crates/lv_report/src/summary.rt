@@ -4,7 +4,7 @@ ghost use Rattle.lv_report.specs.Texts.{figures_text, made_text};
 
 use crate::names::push_numbered;
 use lv_formula::Memory;
-use lv_show::show;
+use lv_show::show_system;
 use lv_system::System;
 use lv_tree::List;
 use std::alloc::Global;
@@ -38,7 +38,7 @@ pub fn made(
 ) -> Result<List<u8>, Memory>
     ensures { IfOk result (λ text. text ≡ made_text system.now obligations largest answer.now) }
 {
-    let shown = show(alloc, system)?;
+    let shown = show_system(alloc, system)?;
     let mut text = Vec::from_slice(alloc, shown.as_slice())?;
     push_figures(&mut text, obligations, largest, answer)?;
     Ok(List::from_vec(text))

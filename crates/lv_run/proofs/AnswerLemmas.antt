@@ -4,8 +4,8 @@ use Rattle.std.specs.List.{All}
 use Rattle.std.proofs.lemmas.Bool.{and_parts, leb-true}
 use Rattle.std.proofs.lemmas.List.Elements.{All-cons, All-nil}
 use Rattle.std.specs.Prelude.{IfErr, IfOk}
-use Rattle.lv_reading.specs.declared.fault.ReadText.{ReadText}
-use Rattle.lv_reading.specs.Given.{Fails, Gives}
+use Rattle.lv_fault.specs.declared.fault.ReadText.{ReadText}
+use Rattle.lv_fault.specs.Given.{Fails, Gives}
 use Rattle.lv_tree.specs.declared.fault.TreeFault.{TreeFault}
 use Rattle.lv_tree.specs.declared.fault.TreeFault.TheVariants as T
 use Rattle.lv_tree.specs.Reading.{IsFault}
@@ -14,8 +14,9 @@ use Rattle.lv_system.specs.declared.parts.Parts.{Parts}
 use Rattle.lv_grammar.specs.LabelLimits.{are_narrow, labels_keep_limits}
 use Rattle.lv_grammar.specs.Spelling.{Spells, SpellsSystem}
 use Rattle.lv_tree.specs.declared.tree.Tree.{Tree}
-use Rattle.lv_syntax.specs.Items.{system_of}
-use Rattle.lv_syntax.proofs.SystemAgain.{system_again}
+use Rattle.lv_grammar.specs.Reading.{system_of}
+use Rattle.lv_spelling.proofs.SystemAgain.{system_again}
+use Rattle.lv_fitting.proofs.SystemFits.{system_limited}
 use Rattle.lv_labels.specs.declared.key.Key.{Key}
 use Rattle.lv_labels.specs.Labels.{labels_of}
 use Rattle.lv_labels.specs.Obligations.{InvariantsFit}
@@ -45,15 +46,15 @@ own_fault T.Memory fault other is = absurd (other refl)
 
 -- the labels of a system that bytes spell keep their limits
 pub keeps_limits : (bytes : List ℕ) (p : Parts) → Spells bytes p → labels_keep_limits p ≡ true
-keeps_limits bytes p s = s.system.labels
+keeps_limits bytes p s = system_limited p s.tree s.system
 
 pub system_limits : (t : Tree) (r : Result Parts ReadText) → IfOk r (λ p. SpellsSystem p t) → IfOk r (λ p. labels_keep_limits p ≡ true)
-system_limits t (Ok p) s = s.labels
+system_limits t (Ok p) s = system_limited p t s
 system_limits t (Err e) s = tt
 
 -- what reading gives of a tree is what the definition by steps gives
 pub system_read : (t : Tree) (r : Result Parts ReadText) → IfOk r (λ p. SpellsSystem p t) → IfErr r (λ e. Fails e (system_of t)) → Gives (λ p. p) r (system_of t)
-system_read t (Ok p) s e = system_again t p s
+system_read t (Ok p) s e = system_again p t s
 system_read t (Err f) s e = e
 
 -- so they have at most four arguments each

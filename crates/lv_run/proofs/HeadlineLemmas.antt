@@ -20,7 +20,7 @@ use Rattle.lv_prove.specs.Outcomes.{IsOutcome}
 use Rattle.lv_headline.specs.Headline.{HoldsAtAllSizes, IsProved}
 use Rattle.lv_headline.proofs.Sound.{chain_holds, text_proved}
 use Rattle.lv_report.specs.Texts.{begins_with_p}
-use Rattle.lv_syntax.proofs.ReadingLaw.{spells_at_most_one}
+use Rattle.lv_spelling.proofs.OneSystem.{spells_at_most_one}
 use Rattle.lv_run.specs.Answers.{Reading, NoTree, NoText, OneSystem, OneCheck, OneReplay, Systems, Reads, IsAnswer, check_report, checked_text, language_of, replay_report, replayed_text, report_of, system_report}
 use Rattle.lv_check.specs.declared.checking.Checked.{Checked}
 use Rattle.lv_check.specs.declared.checking.Checked.TheVariants as C

@@ -6,8 +6,8 @@ use Rattle.lv_tree.specs.Spelling.{SpellsTree}
 use Rattle.lv_tree.specs.Faults.{fault_of}
 use Rattle.lv_system.specs.declared.parts.Parts.{Parts}
 use Rattle.lv_grammar.specs.Spelling.{Spells}
-use Rattle.lv_reading.specs.declared.fault.SyntaxFault.{SyntaxFault}
-use Rattle.lv_syntax.specs.Items.{system_of}
+use Rattle.lv_fault.specs.declared.fault.SyntaxFault.{SyntaxFault}
+use Rattle.lv_grammar.specs.Reading.{system_of}
 use Rattle.lv_grammar.specs.Layout.{shown_text}
 use Rattle.lv_struct.specs.Tables.{HasVocabulary, meaning}
 use Rattle.lv_prove.specs.declared.outcome.Outcome.{Outcome}

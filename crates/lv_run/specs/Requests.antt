@@ -3,16 +3,16 @@ use Rattle.std.specs.Prelude.{◌≡◌, ◌<◌, ℕ, true, ltb, List, codes, R
 use Rattle.lv_tree.specs.declared.tree.Tree.{Tree}
 use Rattle.lv_system.specs.declared.parts.Parts.{Parts}
 use Rattle.lv_prove.specs.Outcomes.{count, vocabulary_at}
-use Rattle.lv_reading.specs.declared.fault.Kind.TheVariants.{Unexpected}
-use Rattle.lv_reading.specs.declared.fault.SyntaxFault.{SyntaxFault}
-use Rattle.lv_reading.specs.Given.{◌>>=◌, ended, fail, headed, next_of}
+use Rattle.lv_fault.specs.declared.fault.Kind.TheVariants.{Unexpected}
+use Rattle.lv_fault.specs.declared.fault.SyntaxFault.{SyntaxFault}
+use Rattle.lv_fault.specs.Given.{◌>>=◌, ended, fail, headed, next_of}
 use Rattle.lv_reading.specs.declared.numbers.Numbered.{Numbered}
 use Rattle.lv_reading.specs.Numbers.{exactly, number_in}
 use Rattle.lv_reading.specs.Structures.{structure_in}
 use Rattle.lv_replay.specs.declared.lasso.Lasso.{Lasso}
 use Rattle.lv_lasso.specs.Reading.{lasso_in}
 use Rattle.lv_replay.specs.Fits.{LassoFits}
-use Rattle.lv_syntax.specs.Items.{system_of}
+use Rattle.lv_grammar.specs.Reading.{system_of}
 use Rattle.lv_run.specs.declared.requests.AskedList as asked_list
 use Rattle.lv_run.specs.declared.requests.CheckRequest as check_request
 use Rattle.lv_run.specs.declared.requests.ReplayRequest as replay_request

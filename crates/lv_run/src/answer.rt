@@ -17,7 +17,7 @@ use crate::requests::{CheckRequest, ReplayRequest};
 use crate::verdicts::{checked, checked_report, replayed, replayed_report};
 use lv_command::TextMode;
 use lv_formula::Memory;
-use lv_show::show;
+use lv_layout::show;
 use lv_system::System;
 use lv_tree::List;
 use std::alloc::Global;

@@ -1,10 +1,8 @@
 //! Texts of systems, structures, formulas and symbols.
 ghost use Rattle.std.specs.Prelude.{◌≡◌, ◌++◌, List, codes, IfOk, OnOk};
-ghost use Rattle.lv_tree.specs.declared.tree.Tree.{Tree};
 ghost use Rattle.lv_tree.specs.Writing.{written};
 ghost use Rattle.lv_labels.specs.Table.{table_labels};
 ghost use Rattle.lv_grammar.specs.Words.{symbol_word};
-ghost use Rattle.lv_grammar.specs.Spelling.{SpellsSystem, Spells};
 ghost use Rattle.lv_grammar.specs.ShownFormulas.{shown_formula};
 ghost use Rattle.lv_grammar.specs.ShownSystems.{shown_items};
 ghost use Rattle.lv_grammar.specs.Layout.{in_lines, shown_text};
@@ -49,11 +47,8 @@ fn push_lines(alloc: Global, text: &mut Vec<u8>, trees: &[Tree]) -> Result<(), M
 /// The text of a system: its name on the first line, then each item on a line of its own behind two
 /// spaces, `)` directly behind the last one, and a newline. Variables are `X0`, `X1` and so on, by the
 /// number of variables in whose scope they stand. The only error is want of memory.
-pub fn show(alloc: Global, system: &System) -> Result<List<u8>, Memory>
-    ensures text { IfOk result (λ bytes. bytes ≡ shown_text system.now) }
-
-    // Where some tree spells the system, the text does.
-    ensures again { (t : Tree) → SpellsSystem system.now t → IfOk result (λ bytes. Spells bytes system.now) }
+pub fn show_system(alloc: Global, system: &System) -> Result<List<u8>, Memory>
+    ensures { IfOk result (λ bytes. bytes ≡ shown_text system.now) }
 {
     let parts = system.parts();
     let table = labels_of(alloc, system)?;

@@ -6,7 +6,7 @@ use Rattle.lv_system.specs.declared.parts.Parts.{Parts}
 use Rattle.lv_system.specs.Names.{are_names, each_stands_once, names_fit, names_of, occurrences, same_text}
 use Rattle.lv_system.specs.Step.{action_at, no_action}
 use Rattle.lv_system.proofs.NameLaws.{occurrences_summed, once_parted}
-use Rattle.lv_reading.proofs.SameTexts.{same_self}
+use Rattle.lv_grammar.proofs.SameTexts.{same_self}
 use Rattle.lv_lasso.specs.Reading.{action_in, action_named}
 
 abbrev names : List Action → List (List ℕ)

@@ -19,8 +19,8 @@ use Rattle.lv_grammar.proofs.SmallElements.{tuple_few}
 use Rattle.lv_reading.specs.Numbers.{element_in, exactly_in, is_number, number_in, value_from}
 use Rattle.lv_reading.specs.Structures.{constant_entry, each_element, elements_in, next_size, relation_entry, size_in, sizes_in, tuple_in, tuples_in}
 use Rattle.lv_reading.proofs.NumberLaws.{own}
-use Rattle.lv_reading.proofs.SameTexts.{same_self}
-use Rattle.lv_reading.proofs.TreesAgain.{headed_by, list_again, word_again}
+use Rattle.lv_grammar.proofs.SameTexts.{same_self}
+use Rattle.lv_grammar.proofs.TreesAgain.{headed_by, list_again, word_again}
 
 -- ---- words and numbers
 

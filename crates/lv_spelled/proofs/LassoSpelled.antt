@@ -14,10 +14,10 @@ use Rattle.lv_system.specs.Vocabularies.{own_vocabulary}
 use Rattle.lv_system.proofs.FitsFacts.{tests}
 use Rattle.lv_grammar.specs.Grammar.{Each, IsWord, first_and_rest}
 use Rattle.lv_grammar.proofs.SmallElements.{tuple_few}
-use Rattle.lv_reading.specs.Given.{next_of}
+use Rattle.lv_fault.specs.Given.{next_of}
 use Rattle.lv_reading.specs.Structures.{elements_in}
-use Rattle.lv_reading.proofs.Steps.{done}
-use Rattle.lv_reading.proofs.TreesAgain.{headed_by}
+use Rattle.lv_grammar.proofs.Steps.{done}
+use Rattle.lv_grammar.proofs.TreesAgain.{headed_by}
 use Rattle.lv_replay.specs.declared.lasso.Lasso.{Lasso}
 use Rattle.lv_replay.specs.declared.lasso.StepTaken.{StepTaken}
 use Rattle.lv_replay.specs.Fits.{step_fits, steps_fit}

@@ -19,10 +19,10 @@ use Rattle.lv_system.specs.declared.parts.Parts.{Parts}
 use Rattle.lv_grammar.specs.Grammar.{Each, IsList, IsWord, first_and_rest, nothing}
 use Rattle.lv_grammar.specs.Structures.{AreSizes, IsConstant, IsEntry, IsEntryOf, IsRelation, IsSize, no_sizes, sizes}
 use Rattle.lv_grammar.specs.Words.{sort_name, symbol_word}
-use Rattle.lv_reading.specs.Given.{headed}
+use Rattle.lv_fault.specs.Given.{headed}
 use Rattle.lv_reading.specs.Structures.{constant_entry, entries_in, next_entry, next_size, relation_entry, size_in, sizes_in, structure_in, with_entry}
 use Rattle.lv_reading.proofs.Found.{constant_found, exact, relation_found, size_found}
-use Rattle.lv_reading.proofs.Steps.{bound, head_found, nothing_left, ok_is, one_more}
+use Rattle.lv_grammar.proofs.Steps.{bound, head_found, nothing_left, ok_is, one_more}
 use Rattle.lv_reading.proofs.StructureSteps.{sizes_many, sizes_some}
 use Rattle.lv_spelled.specs.Laws.{IsSpelledBy}
 use Rattle.lv_spelled.proofs.Entries.{IsChangedAt, IsOf, element_changed, element_is_value, element_of_it, tuples_are_held, tuples_changed, tuples_of_it}

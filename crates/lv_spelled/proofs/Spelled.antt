@@ -22,7 +22,7 @@ use Rattle.lv_grammar.specs.Structures.{AreSizes, IsEntry, IsEntryOf, sizes}
 use Rattle.lv_grammar.specs.Words.{symbol_word}
 use Rattle.lv_grammar.proofs.SmallElements.{value_few}
 use Rattle.lv_reading.specs.Structures.{entries_in, next_entry, sizes_in, structure_in, with_entry}
-use Rattle.lv_reading.proofs.TreesAgain.{headed_by}
+use Rattle.lv_grammar.proofs.TreesAgain.{headed_by}
 use Rattle.lv_spelled.specs.Laws.{IsSpelledBy}
 use Rattle.lv_spelled.proofs.Again.{constant_again, relation_again, sizes_again}
 use Rattle.lv_spelled.proofs.Entries.{IsOf, element_is_value, element_of_it, tuples_are_held, tuples_of_it}

@@ -3,47 +3,33 @@ use Rattle.std.proofs.Common.{◌≡◌, ℕ, ◌+◌, leb, List, [], ◌∷◌,
 use Rattle.std.proofs.lemmas.List.{reverse-append}
 use Rattle.lv_tree.specs.declared.tree.Tree.{Tree}
 use Rattle.lv_formula.specs.declared.symbols.SortId.{SortId}
-use Rattle.lv_formula.specs.declared.terms.Term.{Term}
 use Rattle.lv_grammar.specs.Words.{Variable}
-use Rattle.lv_syntax.specs.declared.draft.Draft.{Draft}
-use Rattle.lv_syntax.specs.declared.draft.Role.{Role}
-use Rattle.lv_reading.specs.declared.fault.Kind.TheVariants.{Missing, TooMany}
-use Rattle.lv_reading.specs.declared.fault.SyntaxFault.{SyntaxFault}
-use Rattle.lv_reading.specs.Given.{◌>>=◌, fail, fail_if, place_of}
-use Rattle.lv_reading.specs.Behind.{behind}
-use Rattle.lv_reading.proofs.BehindLaws.{nothing_done, nothing_more, one_more, step_behind}
-use Rattle.lv_syntax.specs.Names.{new_variable, sort_in}
-use Rattle.lv_syntax.specs.Formulas.{term_of_sort, terms_in}
-use Rattle.lv_syntax.specs.Items.{Declared, scope_of, sorts_from, pairs_from, arguments_from}
-use Rattle.lv_syntax.specs.Behind.{terms_behind, sorts_behind, parameter_in, pairs_behind, arguments_behind}
+use Rattle.lv_grammar.specs.Known.{Known}
+use Rattle.lv_fault.specs.declared.fault.Kind.TheVariants.{Missing, TooMany}
+use Rattle.lv_fault.specs.declared.fault.SyntaxFault.{SyntaxFault}
+use Rattle.lv_fault.specs.Given.{◌>>=◌, fail, fail_if, place_of}
+use Rattle.lv_fault.specs.Behind.{behind}
+use Rattle.lv_fault.proofs.BehindLaws.{nothing_done, nothing_more, one_more, step_behind}
+use Rattle.lv_grammar.specs.ReadWords.{new_variable, sort_in}
+use Rattle.lv_grammar.specs.ReadItems.{Declared, scope_of, sorts_from, pairs_from, arguments_from}
+use Rattle.lv_syntax.specs.Behind.{sorts_behind, parameter_in, pairs_behind, arguments_behind}
 
 steps : {A B : Type 0} (r : Result B SyntaxFault) (f g : B → Result A SyntaxFault) → ((x : B) → f x ≡ g x) → (r >>= f) ≡ (r >>= g)
 steps (Ok x) f g e = e x
 steps (Err z) f g e = refl
 
-terms_front : (d : Draft) (role : Role) (vs : List Variable) (done : List Term) (ss : List SortId) (ts : List Tree) → terms_behind d role vs done ss ts ≡ behind done (terms_in d role vs ss ts)
-unfolding terms_behind terms_in
-terms_front d role vs done [] [] = sym (nothing_more done)
-terms_front d role vs done [] (t ∷ ts) = sym (nothing_more done)
-terms_front d role vs done (s ∷ ss) [] = sym (nothing_more done)
-terms_front d role vs done (s ∷ ss) (t ∷ ts) =
-    steps (term_of_sort d role vs s t) _ _ (λ x. terms_front d role vs (done ++ x ∷ []) ss ts ∙ one_more done x (terms_in d role vs ss ts)) ∙ sym (step_behind done (term_of_sort d role vs s t) _)
-
-pub terms_read : (d : Draft) (role : Role) (vs : List Variable) (ss : List SortId) (ts : List Tree) → terms_behind d role vs [] ss ts ≡ terms_in d role vs ss ts
-terms_read d role vs ss ts = terms_front d role vs [] ss ts ∙ nothing_done (terms_in d role vs ss ts)
-
 one_longer : {A : Type 0} (done : List A) (x : A) → length (done ++ x ∷ []) ≡ length done + 1
 one_longer [] x = refl
 one_longer (y ∷ ys) x = let e = one_longer ys x in omega (arith, e)
 
-sorts_front : (d : Draft) (done : List SortId) (ts : List Tree) → sorts_behind d done ts ≡ behind done (sorts_from d (length done) ts)
+sorts_front : (d : Known) (done : List SortId) (ts : List Tree) → sorts_behind d done ts ≡ behind done (sorts_from d (length done) ts)
 unfolding sorts_behind sorts_from
 sorts_front d done [] = sym (nothing_more done)
 sorts_front d done (t ∷ ts) =
     steps (sort_in d t) _ _ (λ s. steps (fail_if (leb 4 (length done)) TooMany (place_of t)) _ _ (λ u. sorts_front d (done ++ s ∷ []) ts ∙ (ap (λ n. behind (done ++ s ∷ []) (sorts_from d n ts)) (one_longer done s)
     ∙ one_more done s (sorts_from d (length done + 1) ts))) ∙ sym (step_behind done (fail_if (leb 4 (length done)) TooMany (place_of t)) _)) ∙ sym (step_behind done (sort_in d t) _)
 
-pub sorts_read : (d : Draft) (ts : List Tree) → sorts_behind d [] ts ≡ sorts_from d 0 ts
+pub sorts_read : (d : Known) (ts : List Tree) → sorts_behind d [] ts ≡ sorts_from d 0 ts
 sorts_read d ts = sorts_front d [] ts ∙ nothing_done (sorts_from d 0 ts)
 
 last_first : {A : Type 0} (xs : List A) (x : A) → reverse (xs ++ x ∷ []) ≡ x ∷ reverse xs
@@ -79,7 +65,7 @@ parameter_step done t f = go (new_variable (scope_of done) t) (fail_if (leb 4 (l
   go (Ok name) (Err e) = refl
   go (Err e) q = refl
 
-pairs_front : (d : Draft) (done : List Declared) (end : ℕ) (ts : List Tree) → pairs_behind d done end ts ≡ behind done (pairs_from d (length done) (scope_of done) end ts)
+pairs_front : (d : Known) (done : List Declared) (end : ℕ) (ts : List Tree) → pairs_behind d done end ts ≡ behind done (pairs_from d (length done) (scope_of done) end ts)
 unfolding pairs_behind pairs_from
 pairs_front d done end [] = sym (nothing_more done)
 pairs_front d done end (t ∷ []) =
@@ -99,5 +85,5 @@ pairs_front d done end (t ∷ u ∷ ts) =
       made : List ℕ → SortId → Declared
       made name sort = record { at = place_of t; variable = record { name = name; sort = sort } }
 
-pub pairs_read : (d : Draft) (end : ℕ) (ts : List Tree) → pairs_behind d [] end ts ≡ pairs_from d 0 [] end ts
+pub pairs_read : (d : Known) (end : ℕ) (ts : List Tree) → pairs_behind d [] end ts ≡ pairs_from d 0 [] end ts
 pairs_read d end ts = pairs_front d [] end ts ∙ nothing_done (pairs_from d 0 [] end ts)

@@ -2,27 +2,16 @@
 use Rattle.std.specs.Prelude.{ℕ, leb, List, [], ◌∷◌, ◌++◌, length, reverse, Result, Ok}
 use Rattle.lv_tree.specs.declared.tree.Tree.{Tree}
 use Rattle.lv_formula.specs.declared.symbols.SortId.{SortId}
-use Rattle.lv_formula.specs.declared.terms.Term.{Term}
 use Rattle.lv_grammar.specs.Words.{Variable}
-use Rattle.lv_syntax.specs.declared.draft.Draft.{Draft}
-use Rattle.lv_syntax.specs.declared.draft.Role.{Role}
-use Rattle.lv_reading.specs.declared.fault.Kind.TheVariants.{Missing, TooMany}
-use Rattle.lv_reading.specs.declared.fault.SyntaxFault.{SyntaxFault}
-use Rattle.lv_reading.specs.Given.{◌>>=◌, fail, fail_if, place_of, next_of, ended}
-use Rattle.lv_syntax.specs.Names.{new_variable, sort_in}
-use Rattle.lv_syntax.specs.Formulas.{term_of_sort}
-use Rattle.lv_syntax.specs.Items.{Declared, scope_of}
-
--- one term of each sort
-unfoldable pub terms_behind : Draft → Role → List Variable → List Term → List SortId → List Tree → Result (List Term) SyntaxFault
-terms_behind d role vs done [] items = Ok done
-terms_behind d role vs done (s ∷ ss) [] = Ok done
-terms_behind d role vs done (s ∷ ss) (t ∷ ts) = do
-  x ← term_of_sort d role vs s t
-  terms_behind d role vs (done ++ x ∷ []) ss ts
+use Rattle.lv_fault.specs.declared.fault.Kind.TheVariants.{Missing, TooMany}
+use Rattle.lv_fault.specs.declared.fault.SyntaxFault.{SyntaxFault}
+use Rattle.lv_fault.specs.Given.{◌>>=◌, fail, fail_if, place_of, next_of, ended}
+use Rattle.lv_grammar.specs.Known.{Known}
+use Rattle.lv_grammar.specs.ReadWords.{new_variable, sort_in}
+use Rattle.lv_grammar.specs.ReadItems.{Declared, scope_of}
 
 -- SORT .., at most four
-unfoldable pub sorts_behind : Draft → List SortId → List Tree → Result (List SortId) SyntaxFault
+unfoldable pub sorts_behind : Known → List SortId → List Tree → Result (List SortId) SyntaxFault
 sorts_behind d done [] = Ok done
 sorts_behind d done (t ∷ ts) = do
   s ← sort_in d t
@@ -37,7 +26,7 @@ parameter_in done t = do
   Ok name
 
 -- VAR SORT ..
-unfoldable pub pairs_behind : Draft → List Declared → ℕ → List Tree → Result (List Declared) SyntaxFault
+unfoldable pub pairs_behind : Known → List Declared → ℕ → List Tree → Result (List Declared) SyntaxFault
 pairs_behind d done end [] = Ok done
 pairs_behind d done end (t ∷ []) = parameter_in done t >>= λ name. fail Missing end
 pairs_behind d done end (t ∷ u ∷ ts) = do

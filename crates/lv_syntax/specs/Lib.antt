@@ -1,10 +1,5 @@
 pub mod Behind
-pub mod Formulas
-pub mod Items
-pub mod Labelling
-pub mod Names
+pub mod Groups
 pub mod Parameters
 pub mod Reader
-pub mod Scopes
-pub mod Seen
-pub mod Words
+pub mod SectionsSeen

@@ -1,311 +1,244 @@
-//! The items of a system, read from trees in their order.
+//! The kinds of items of a system.
 ghost use Rattle.std.specs.Prelude.{◌≡◌};
-ghost use Rattle.lv_syntax.specs.declared.items.ItemKind.TheVariants as I;
-ghost use Rattle.lv_reading.specs.Given.{Gives};
-ghost use Rattle.lv_reading.specs.Seen.{headed_seen};
-ghost use Rattle.lv_syntax.specs.Items.{first_kinds, last_kinds, kind_of, kind_at, rank_of, lacks_property, is_full, in_order, with_item, step, items_of};
+ghost use Rattle.lv_fault.specs.Given.{Gives};
+ghost use Rattle.lv_fault.specs.Seen.{headed_seen};
+ghost use Rattle.lv_grammar.specs.Reading.{symbol_item};
 
 use crate::declarations::{
     lone_closed, read_constant, read_fair, read_invariant, read_relation, read_sort,
 };
-use crate::draft::{Draft, Role};
-use crate::labelled::{read_label, read_property, read_witness};
+use crate::labelled::{Labelled, read_label, read_property, read_witness};
+use crate::sections::{Items, begins_with};
 use crate::updates::read_action;
-use lv_reading::trees::{HeadedList, head, refusal, refuse_if};
-use lv_reading::{Kind, ReadText};
-use lv_system::same_bytes;
+use lv_fault::ReadText;
+use lv_fault::trees::{HeadedList, head};
+use lv_formula::{Formula, Temporal};
+use lv_grammar::reading::Role;
+use lv_system::{Action, Fair, Invariant, LabelDecl, Sort, Symbol, WitnessDecl, same_bytes};
 use lv_tree::Tree;
+use lv_words::known::Known;
 use std::alloc::Global;
 
-/// The kind of an item of a system.
-#[derive(Clone, Copy, Debug, PartialEq, Eq)]
-pub(crate) enum ItemKind {
-    Sort,
-    Relation,
-    Constant,
-    Axiom,
-    Init,
-    Action,
-    Fair,
-    Label,
-    Witness,
-    Property,
-    Invariant,
-}
+pub(crate) struct Sorts;
 
-impl ItemKind {
-    /// The place of the kind in the order of items. Relations and constants may be mixed.
-    fn rank(self) -> u32
-        ensures { result ≡ rank_of self }
-    {
-        match self {
-            ItemKind::Sort => 0,
-            ItemKind::Relation | ItemKind::Constant => 1,
-            ItemKind::Axiom => 2,
-            ItemKind::Init => 3,
-            ItemKind::Action => 4,
-            ItemKind::Fair => 5,
-            ItemKind::Label => 6,
-            ItemKind::Witness => 7,
-            ItemKind::Property => 8,
-            ItemKind::Invariant => 9,
-        }
+impl Items for Sorts {
+    ghost use Rattle.lv_grammar.specs.Reading.{sort_kind};
+
+    type Item = Sort;
+
+    ghost kind = { sort_kind };
+
+    fn begins(tree: &Tree) -> bool {
+        begins_with(b"sort", tree)
+    }
+
+    fn next(alloc: Global, known: &mut Known, tree: &Tree) -> Result<Sort, ReadText> {
+        let list = head(tree)?;
+        let sort = read_sort(alloc, &*known, &list)?;
+        known.add_sort(alloc, &sort)?;
+        Ok(sort)
     }
 }
 
-#[tactic(auto, unfolding(crate::specs::Items::first_kinds))]
-fn first_kind(text: &[u8]) -> Option<ItemKind>
-    ensures { result ≡ first_kinds text.now }
+/// Relations and constants, which may be mixed.
+pub(crate) struct Symbols;
+
+fn read_symbol(alloc: Global, known: &Known, list: &HeadedList) -> Result<Symbol, ReadText>
+    ensures { Gives (λ x. x) result (symbol_item known.now (headed_seen list.now)) }
 {
-    if same_bytes(text, b"sort") {
-        Some(ItemKind::Sort)
-    } else if same_bytes(text, b"relation") {
-        Some(ItemKind::Relation)
-    } else if same_bytes(text, b"constant") {
-        Some(ItemKind::Constant)
-    } else if same_bytes(text, b"axiom") {
-        Some(ItemKind::Axiom)
-    } else if same_bytes(text, b"init") {
-        Some(ItemKind::Init)
-    } else if same_bytes(text, b"action") {
-        Some(ItemKind::Action)
+    if same_bytes(list.word.text, b"relation") {
+        read_relation(alloc, known, list)
     } else {
-        None
+        read_constant(alloc, known, list)
     }
 }
 
-#[tactic(auto, unfolding(crate::specs::Items::last_kinds))]
-fn last_kind(text: &[u8]) -> Option<ItemKind>
-    ensures { result ≡ last_kinds text.now }
-{
-    if same_bytes(text, b"fair") {
-        Some(ItemKind::Fair)
-    } else if same_bytes(text, b"label") {
-        Some(ItemKind::Label)
-    } else if same_bytes(text, b"witness") {
-        Some(ItemKind::Witness)
-    } else if same_bytes(text, b"property") {
-        Some(ItemKind::Property)
-    } else if same_bytes(text, b"invariant") {
-        Some(ItemKind::Invariant)
-    } else {
-        None
+impl Items for Symbols {
+    ghost use Rattle.lv_grammar.specs.Reading.{symbol_kind};
+
+    type Item = Symbol;
+
+    ghost kind = { symbol_kind };
+
+    fn begins(tree: &Tree) -> bool {
+        begins_with(b"relation", tree) || begins_with(b"constant", tree)
+    }
+
+    fn next(alloc: Global, known: &mut Known, tree: &Tree) -> Result<Symbol, ReadText> {
+        let list = head(tree)?;
+        let symbol = read_symbol(alloc, &*known, &list)?;
+        known.add_symbol(alloc, &symbol)?;
+        Ok(symbol)
     }
 }
 
-/// The kind of item that begins with this word.
-fn kind(at: u32, text: &[u8]) -> Result<ItemKind, ReadText>
-    ensures { Gives (λ x. x) result (kind_at at (kind_of text.now)) }
-{
-    if let Some(kind) = first_kind(text) {
-        return Ok(kind);
-    }
-    match last_kind(text) {
-        Some(kind) => Ok(kind),
-        None => Err(refusal(Kind::Unexpected, at)),
-    }
-}
+pub(crate) struct Axioms;
 
-/// Whether the item is an invariant and no property came before it.
-fn misses_property(draft: &Draft, kind: ItemKind) -> bool
-    ensures { result ≡ lacks_property draft.now kind }
-{
-    match kind {
-        ItemKind::Invariant => draft.property.is_none(),
-        ItemKind::Sort
-        | ItemKind::Relation
-        | ItemKind::Constant
-        | ItemKind::Axiom
-        | ItemKind::Init
-        | ItemKind::Action
-        | ItemKind::Fair
-        | ItemKind::Label
-        | ItemKind::Witness
-        | ItemKind::Property => false,
+impl Items for Axioms {
+    ghost use Rattle.lv_grammar.specs.Reading.{axiom_kind};
+
+    type Item = Formula;
+
+    ghost kind = { axiom_kind };
+
+    fn begins(tree: &Tree) -> bool {
+        begins_with(b"axiom", tree)
+    }
+
+    fn next(alloc: Global, known: &mut Known, tree: &Tree) -> Result<Formula, ReadText> {
+        let list = head(tree)?;
+        lone_closed(alloc, &*known, Role::Axiom, list.end, list.rest)
     }
 }
 
-/// Whether there are as many items of the kind as there may be.
-fn has_all(draft: &Draft, kind: ItemKind) -> bool
-    ensures { result ≡ is_full draft.now kind }
-{
-    match kind {
-        ItemKind::Sort => draft.sorts.as_slice().len() >= 16,
-        ItemKind::Relation | ItemKind::Constant => draft.symbols.as_slice().len() >= 256,
-        ItemKind::Axiom => draft.axioms.as_slice().len() >= 64,
-        ItemKind::Init => draft.inits.as_slice().len() >= 64,
-        ItemKind::Action => draft.actions.as_slice().len() >= 32,
-        ItemKind::Fair => draft.fairs.as_slice().len() >= 16,
-        ItemKind::Label => draft.labels.as_slice().len() >= 32,
-        ItemKind::Witness => draft.witnesses.as_slice().len() >= 16,
-        ItemKind::Property => draft.property.is_some(),
-        ItemKind::Invariant => draft.invariants.as_slice().len() >= 256,
+pub(crate) struct Inits;
+
+impl Items for Inits {
+    ghost use Rattle.lv_grammar.specs.Reading.{init_kind};
+
+    type Item = Formula;
+
+    ghost kind = { init_kind };
+
+    fn begins(tree: &Tree) -> bool {
+        begins_with(b"init", tree)
+    }
+
+    fn next(alloc: Global, known: &mut Known, tree: &Tree) -> Result<Formula, ReadText> {
+        let list = head(tree)?;
+        lone_closed(alloc, &*known, Role::State, list.end, list.rest)
     }
 }
 
-/// That the item stands in its order, and isn't one too many.
-#[tactic(auto, unfolding(crate::specs::Items::in_order))]
-fn check_order(before: ItemKind, draft: &Draft, kind: ItemKind, at: u32) -> Result<(), ReadText>
-    ensures { Gives (λ x. x) result (in_order before draft.now kind at) }
-{
-    let misplaced = kind.rank() < before.rank() || misses_property(draft, kind);
-    refuse_if(misplaced, Kind::Unexpected, at)?;
-    refuse_if(has_all(draft, kind), Kind::TooMany, at)
-}
+pub(crate) struct Actions;
 
-#[tactic(auto, unfolding(crate::specs::Items::with_item))]
-fn with_sort(alloc: Global, mut draft: Draft, list: &HeadedList) -> Result<Draft, ReadText>
-    ensures { Gives (λ x. x) result (with_item I.Sort draft (headed_seen list.now)) }
-{
-    let item = read_sort(alloc, &draft, list)?;
-    draft.sorts.push(item)?;
-    Ok(draft)
-}
+impl Items for Actions {
+    ghost use Rattle.lv_grammar.specs.Reading.{action_kind};
 
-#[tactic(auto, unfolding(crate::specs::Items::with_item))]
-fn with_relation(alloc: Global, mut draft: Draft, list: &HeadedList) -> Result<Draft, ReadText>
-    ensures { Gives (λ x. x) result (with_item I.Relation draft (headed_seen list.now)) }
-{
-    let item = read_relation(alloc, &draft, list)?;
-    draft.symbols.push(item)?;
-    Ok(draft)
-}
+    type Item = Action;
 
-#[tactic(auto, unfolding(crate::specs::Items::with_item))]
-fn with_constant(alloc: Global, mut draft: Draft, list: &HeadedList) -> Result<Draft, ReadText>
-    ensures { Gives (λ x. x) result (with_item I.Constant draft (headed_seen list.now)) }
-{
-    let item = read_constant(alloc, &draft, list)?;
-    draft.symbols.push(item)?;
-    Ok(draft)
-}
+    ghost kind = { action_kind };
 
-#[tactic(auto, unfolding(crate::specs::Items::with_item))]
-fn with_axiom(alloc: Global, mut draft: Draft, list: &HeadedList) -> Result<Draft, ReadText>
-    ensures { Gives (λ x. x) result (with_item I.Axiom draft (headed_seen list.now)) }
-{
-    let item = lone_closed(alloc, &draft, Role::Axiom, list.end, list.rest)?;
-    draft.axioms.push(item)?;
-    Ok(draft)
-}
+    fn begins(tree: &Tree) -> bool {
+        begins_with(b"action", tree)
+    }
 
-#[tactic(auto, unfolding(crate::specs::Items::with_item))]
-fn with_init(alloc: Global, mut draft: Draft, list: &HeadedList) -> Result<Draft, ReadText>
-    ensures { Gives (λ x. x) result (with_item I.Init draft (headed_seen list.now)) }
-{
-    let item = lone_closed(alloc, &draft, Role::State, list.end, list.rest)?;
-    draft.inits.push(item)?;
-    Ok(draft)
-}
-
-#[tactic(auto, unfolding(crate::specs::Items::with_item))]
-fn with_action(alloc: Global, mut draft: Draft, list: &HeadedList) -> Result<Draft, ReadText>
-    ensures { Gives (λ x. x) result (with_item I.Action draft (headed_seen list.now)) }
-{
-    let item = read_action(alloc, &draft, list)?;
-    draft.actions.push(item)?;
-    Ok(draft)
-}
-
-#[tactic(auto, unfolding(crate::specs::Items::with_item))]
-fn with_fair(alloc: Global, mut draft: Draft, list: &HeadedList) -> Result<Draft, ReadText>
-    ensures { Gives (λ x. x) result (with_item I.Fair draft (headed_seen list.now)) }
-{
-    let item = read_fair(alloc, &draft, list)?;
-    draft.fairs.push(item)?;
-    Ok(draft)
-}
-
-#[tactic(auto, unfolding(crate::specs::Items::with_item))]
-fn with_invariant(alloc: Global, mut draft: Draft, list: &HeadedList) -> Result<Draft, ReadText>
-    ensures { Gives (λ x. x) result (with_item I.Invariant draft (headed_seen list.now)) }
-{
-    let item = read_invariant(alloc, &draft, list)?;
-    draft.invariants.push(item)?;
-    Ok(draft)
-}
-
-#[tactic(auto, unfolding(crate::specs::Items::with_item))]
-fn with_label(alloc: Global, mut draft: Draft, list: &HeadedList) -> Result<Draft, ReadText>
-    ensures { Gives (λ x. x) result (with_item I.Label draft (headed_seen list.now)) }
-{
-    let labelled = read_label(alloc, &draft, list)?;
-    draft.labels.push(labelled.label)?;
-    draft.numbers.push(labelled.number)?;
-    draft.keys = labelled.table;
-    Ok(draft)
-}
-
-#[tactic(auto, unfolding(crate::specs::Items::with_item))]
-fn with_witness(alloc: Global, mut draft: Draft, list: &HeadedList) -> Result<Draft, ReadText>
-    ensures { Gives (λ x. x) result (with_item I.Witness draft (headed_seen list.now)) }
-{
-    let (witness, table) = read_witness(alloc, &draft, list)?;
-    draft.witnesses.push(witness)?;
-    draft.keys = table;
-    Ok(draft)
-}
-
-#[tactic(auto, unfolding(crate::specs::Items::with_item))]
-fn with_property(alloc: Global, mut draft: Draft, list: &HeadedList) -> Result<Draft, ReadText>
-    ensures { Gives (λ x. x) result (with_item I.Property draft (headed_seen list.now)) }
-{
-    let (property, table) = read_property(alloc, &draft, list)?;
-    draft.property = Some(property);
-    draft.keys = table;
-    Ok(draft)
-}
-
-/// The draft with the item.
-#[tactic(auto, unfolding(crate::specs::Items::with_item))]
-fn with_next(
-    alloc: Global,
-    kind: ItemKind,
-    draft: Draft,
-    list: &HeadedList,
-) -> Result<Draft, ReadText>
-    ensures { Gives (λ x. x) result (with_item kind draft (headed_seen list.now)) }
-{
-    match kind {
-        ItemKind::Sort => with_sort(alloc, draft, list),
-        ItemKind::Relation => with_relation(alloc, draft, list),
-        ItemKind::Constant => with_constant(alloc, draft, list),
-        ItemKind::Axiom => with_axiom(alloc, draft, list),
-        ItemKind::Init => with_init(alloc, draft, list),
-        ItemKind::Action => with_action(alloc, draft, list),
-        ItemKind::Fair => with_fair(alloc, draft, list),
-        ItemKind::Label => with_label(alloc, draft, list),
-        ItemKind::Witness => with_witness(alloc, draft, list),
-        ItemKind::Property => with_property(alloc, draft, list),
-        ItemKind::Invariant => with_invariant(alloc, draft, list),
+    fn next(alloc: Global, known: &mut Known, tree: &Tree) -> Result<Action, ReadText> {
+        let list = head(tree)?;
+        let action = read_action(alloc, &*known, &list)?;
+        known.add_action(alloc, &action)?;
+        Ok(action)
     }
 }
 
-/// The next item.
-#[tactic(auto, unfolding(crate::specs::Items::step))]
-fn read_step(
-    alloc: Global,
-    before: ItemKind,
-    draft: Draft,
-    tree: &Tree,
-) -> Result<(ItemKind, Draft), ReadText>
-    ensures { Gives (λ x. x) result (step before draft tree.now) }
-{
-    let list = head(tree)?;
-    let kind = kind(list.word.at, list.word.text)?;
-    check_order(before, &draft, kind, list.at)?;
-    let draft = with_next(alloc, kind, draft, &list)?;
-    Ok((kind, draft))
+pub(crate) struct Fairs;
+
+impl Items for Fairs {
+    ghost use Rattle.lv_grammar.specs.Reading.{fair_kind};
+
+    type Item = Fair;
+
+    ghost kind = { fair_kind };
+
+    fn begins(tree: &Tree) -> bool {
+        begins_with(b"fair", tree)
+    }
+
+    fn next(alloc: Global, known: &mut Known, tree: &Tree) -> Result<Fair, ReadText> {
+        let list = head(tree)?;
+        let fair = read_fair(alloc, &*known, &list)?;
+        known.add_fair(alloc, &fair)?;
+        Ok(fair)
+    }
 }
 
-/// The items of a system, in order.
-pub(crate) fn read_items(alloc: Global, draft: Draft, items: &[Tree]) -> Result<Draft, ReadText>
-    ensures { Gives (λ x. x) result (items_of I.Sort draft items.now) }
-{
-    let mut draft = draft;
-    let mut kind = ItemKind::Sort;
-    for tree in items {
-        (kind, draft) = read_step(alloc, kind, draft, tree)?;
+pub(crate) struct Labels;
+
+impl Items for Labels {
+    ghost use Rattle.lv_grammar.specs.Reading.{label_kind};
+
+    type Item = LabelDecl;
+
+    ghost kind = { label_kind };
+
+    fn begins(tree: &Tree) -> bool {
+        begins_with(b"label", tree)
     }
-    Ok(draft)
+
+    fn next(alloc: Global, known: &mut Known, tree: &Tree) -> Result<LabelDecl, ReadText> {
+        let list = head(tree)?;
+        let Labelled {
+            label,
+            number,
+            sorts,
+            table,
+        } = read_label(alloc, &*known, &list)?;
+        known.add_label(alloc, label.name.as_slice(), number, sorts)?;
+        known.set_keys(table);
+        Ok(label)
+    }
+}
+
+pub(crate) struct Witnesses;
+
+impl Items for Witnesses {
+    ghost use Rattle.lv_grammar.specs.Reading.{witness_kind};
+
+    type Item = WitnessDecl;
+
+    ghost kind = { witness_kind };
+
+    fn begins(tree: &Tree) -> bool {
+        begins_with(b"witness", tree)
+    }
+
+    fn next(alloc: Global, known: &mut Known, tree: &Tree) -> Result<WitnessDecl, ReadText> {
+        let list = head(tree)?;
+        let (witness, table) = read_witness(alloc, &*known, &list)?;
+        known.add_witness(alloc, &witness)?;
+        known.set_keys(table);
+        Ok(witness)
+    }
+}
+
+pub(crate) struct Properties;
+
+impl Items for Properties {
+    ghost use Rattle.lv_grammar.specs.Reading.{property_kind};
+
+    type Item = Temporal;
+
+    ghost kind = { property_kind };
+
+    fn begins(tree: &Tree) -> bool {
+        begins_with(b"property", tree)
+    }
+
+    fn next(alloc: Global, known: &mut Known, tree: &Tree) -> Result<Temporal, ReadText> {
+        let list = head(tree)?;
+        let (property, table) = read_property(alloc, &*known, &list)?;
+        known.set_keys(table);
+        Ok(property)
+    }
+}
+
+pub(crate) struct Invariants;
+
+impl Items for Invariants {
+    ghost use Rattle.lv_grammar.specs.Reading.{invariant_kind};
+
+    type Item = Invariant;
+
+    ghost kind = { invariant_kind };
+
+    fn begins(tree: &Tree) -> bool {
+        begins_with(b"invariant", tree)
+    }
+
+    fn next(alloc: Global, known: &mut Known, tree: &Tree) -> Result<Invariant, ReadText> {
+        let list = head(tree)?;
+        let invariant = read_invariant(alloc, &*known, &list)?;
+        known.add_invariant(alloc, &invariant)?;
+        Ok(invariant)
+    }
 }

@@ -1,26 +1,26 @@
 //! The labels of formulas, with the limits that are found once a formula is read.
-ghost use Rattle.std.specs.Prelude.{◌≡◌, ◌≤◌, ◌++◌, ◌∷◌, length, [], IfOk, IfErr, OnOk, codes, map, reverse};
-ghost use Rattle.lv_labels.specs.Once.{is_among, once_behind, place_of};
-ghost use Rattle.lv_labels.specs.Labels.{key_eq, keys_of, number_of};
-ghost use Rattle.lv_reading.specs.Given.{Gives};
+ghost use Rattle.std.specs.Prelude.{◌≡◌, ◌++◌, IfOk, OnOk, drop, map, reverse};
+ghost use Rattle.lv_labels.specs.Labels.{keys_of};
+ghost use Rattle.lv_fault.specs.Given.{Gives};
+ghost use Rattle.lv_grammar.specs.Labelling.{marked, is_operator_word, begins_operator, operator_places, operator_places_all, first_of, add_labels, path_in, free_name};
+ghost use Rattle.lv_grammar.specs.Rules.{own_number, own_sorts, table_behind};
+ghost use Rattle.lv_grammar.specs.ReadFormulas.{temporal_in};
+ghost use Rattle.lv_grammar.specs.ReadItems.{scope_of, ranges_of, places_of};
 ghost use Rattle.lv_syntax.specs.Parameters.{params_seen};
-ghost use Rattle.lv_syntax.specs.Labelling.{marked, is_operator_word, begins_operator, operator_places, operator_places_all, add_labels, path_in, own_number, free_name};
-ghost use Rattle.lv_syntax.specs.Formulas.{temporal_in};
-ghost use Rattle.lv_syntax.specs.Items.{scope_of, sorts_of, places_of};
 
 use crate::declarations::ROOM;
-use crate::draft::{Draft, Role};
-use crate::formulas::read_temporal;
-use crate::growing::Growing;
 use crate::parameters::sorts_of_parameters;
-use crate::scope::{Parameter, Scope};
-use crate::symbols::Setting;
-use lv_formula::{List, Memory, Scope as Context, Temporal};
-use lv_labels::Key;
-use lv_reading::trees::{refusal, refuse_if};
-use lv_reading::{Kind, ReadText};
+use lv_fault::trees::{refusal, refuse_if};
+use lv_fault::{Kind, ReadText};
+use lv_formula::{List, Memory, Scope as Context, SortId, Temporal};
+use lv_grammar::reading::Role;
+use lv_labels::{Key, KnownKeys, copied};
 use lv_system::same_bytes;
 use lv_tree::Tree;
+use lv_words::formulas::read_temporal;
+use lv_words::known::Known;
+use lv_words::scope::{Parameter, Scope};
+use lv_words::symbols::Setting;
 use std::alloc::Global;
 
 fn is_operator(tree: &Tree) -> bool
@@ -73,74 +73,37 @@ fn push_all_places(items: &[Tree], places: &mut Vec<u32>) -> Result<(), Memory>
     Ok(())
 }
 
-fn is_known(key: &Key, known: &[Key]) -> bool
-    ensures { result ≡ is_among key_eq key.now known.now }
+/// The first place, 0 where there is none, and the places behind it.
+fn split_first(places: &[u32]) -> (u32, &[u32])
+    ensures first { result.0 ≡ first_of places.now }
+    ensures rest { result.1.now ≡ drop 1 places.now }
 {
-    for other in known {
-        if key.equal(other) {
-            return true;
-        }
+    match places {
+        [] => (0, places),
+        [first, rest @ ..] => (*first, rest),
     }
-    false
-}
-
-/// The number of the label in the table, the table's length where it is not there.
-fn number(table: &[Key], key: &Key) -> usize
-    ensures number { result ≡ number_of table.now key.now }
-    ensures within { result ≤ length table.now }
-{
-    for (i, other) in table.iter().enumerate() {
-        if key.equal(other) {
-            return i;
-        }
-    }
-    table.len()
-}
-
-fn copied(alloc: Global, keys: &[Key]) -> Result<Growing<Key>, ReadText>
-    ensures copy { IfOk result (λ copy. copy ≡ keys.now) }
-    ensures memory { IfErr result (λ e. e ≡ ReadText.Memory) }
-{
-    let mut copy = Growing::new(alloc);
-    for key in keys {
-        copy.push(key.share(alloc)?)?;
-    }
-    Ok(copy)
-}
-
-/// The labels that are known, with this one behind them if it isn't there.
-fn with_key(alloc: Global, mut known: Growing<Key>, key: &Key) -> Result<Growing<Key>, ReadText>
-    ensures keys { IfOk result (λ keys. keys ≡ once_behind key_eq known (key.now ∷ [])) }
-    ensures memory { IfErr result (λ e. e ≡ ReadText.Memory) }
-{
-    if !is_known(key, known.as_slice()) {
-        known.push(key.share(alloc)?)?;
-    }
-    Ok(known)
 }
 
 /// The labels that are known, and behind them those of a formula, each once. A label with five free
 /// variables is one too many, and so is the 33rd.
-#[tactic(auto, unfolding(crate::specs::Labelling::add_labels))]
+#[tactic(auto, unfolding(lv_grammar::specs::Labelling::add_labels))]
 fn with_keys(
     alloc: Global,
-    known: Growing<Key>,
+    mut known: KnownKeys,
     places: &[u32],
     keys: &[Key],
-) -> Result<Growing<Key>, ReadText>
+) -> Result<KnownKeys, ReadText>
     ensures { Gives (λ x. x) result (add_labels known places.now keys.now) }
 {
     match keys {
         [] => Ok(known),
-        [key, keys @ ..] => match places {
-            [] => Ok(known),
-            [at, places @ ..] => {
-                let known = with_key(alloc, known, key)?;
-                let wide = key.sorts.as_slice().len() > 4;
-                refuse_if(wide || known.as_slice().len() > 32, Kind::TooMany, *at)?;
-                with_keys(alloc, known, places, keys)
-            }
-        },
+        [key, keys @ ..] => {
+            known.add(key.share(alloc)?)?;
+            let (at, places) = split_first(places);
+            let wide = key.sorts.as_slice().len() > 4;
+            refuse_if(wide || known.len() > 32, Kind::TooMany, at)?;
+            with_keys(alloc, known, places, keys)
+        }
     }
 }
 
@@ -149,69 +112,81 @@ pub(crate) fn keys_over(
     alloc: Global,
     f: &Temporal,
     params: &[Parameter],
-) -> Result<List<Key>, ReadText>
-    ensures keys { IfOk result (λ keys. keys ≡ keys_of f.now (reverse (sorts_of (params_seen params.now)))) }
-    ensures memory { IfErr result (λ e. e ≡ ReadText.Memory) }
+) -> Result<List<Key>, Memory>
+    ensures { IfOk result (λ keys. keys ≡ keys_of f.now (reverse (ranges_of (params_seen params.now)))) }
 {
     let sorts = sorts_of_parameters(alloc, params)?;
-    Ok(lv_labels::keys_of(alloc, f, &Context::Outer(sorts.as_slice()))?)
+    lv_labels::keys_of(alloc, f, &Context::Outer(sorts.as_slice()))
 }
 
-fn operators(alloc: Global, tree: &Tree) -> Result<Vec<u32>, ReadText>
-    ensures places { IfOk result (λ places. places.items ≡ operator_places tree.now) }
-    ensures memory { IfErr result (λ e. e ≡ ReadText.Memory) }
+fn operators(alloc: Global, tree: &Tree) -> Result<Vec<u32>, Memory>
+    ensures { IfOk result (λ places. places.items ≡ operator_places tree.now) }
 {
     let mut places = Vec::new(alloc);
     push_places(tree, &mut places)?;
     Ok(places)
 }
 
-#[tactic(auto, using(crate::proofs::ScopeLemmas::scope_same))]
+#[tactic(auto, using(crate::proofs::ScopeLaws::scope_same))]
 fn temporal_over(
     alloc: Global,
     setting: &Setting,
     params: &[Parameter],
     tree: &Tree,
 ) -> Result<Temporal, ReadText>
-    ensures { Gives (λ x. x) result (temporal_in setting.now.draft.now setting.now.role 58 (scope_of (params_seen params.now)) tree.now) }
+    ensures { Gives (λ x. x) result (temporal_in setting.now.known.now setting.now.role 58 (scope_of (params_seen params.now)) tree.now) }
 {
     let outer = Scope::Empty;
     read_temporal(alloc, setting, ROOM, &Scope::Listed(&*params, &outer), tree)
 }
 
 /// A temporal formula over parameters, and the table of labels with its labels.
-#[tactic(auto, using(crate::proofs::ScopeLemmas::scope_sorts), unfolding(crate::specs::Labelling::path_in))]
+#[tactic(auto, using(crate::proofs::ScopeLaws::scope_sorts, crate::proofs::LabelLaws::table_is), unfolding(lv_grammar::specs::Labelling::path_in))]
 pub(crate) fn read_path(
     alloc: Global,
-    draft: &Draft,
+    known: &Known,
     role: Role,
     params: &[Parameter],
     tree: &Tree,
-) -> Result<(Temporal, Growing<Key>), ReadText>
-    ensures { Gives (λ x. x) result (path_in draft.now role 58 (scope_of (params_seen params.now)) tree.now) }
+) -> Result<(Temporal, KnownKeys), ReadText>
+    ensures path { Gives (λ x. x.0) result (path_in known.now role (scope_of (params_seen params.now)) tree.now) }
+    ensures table { IfOk result (λ x. x.1 ≡ table_behind known.now (reverse (ranges_of (params_seen params.now))) x.0) }
 {
-    let setting = Setting { draft, role };
+    let setting = Setting { known, role };
     let f = temporal_over(alloc, &setting, params, tree)?;
     let places = operators(alloc, tree)?;
     let keys = keys_over(alloc, &f, params)?;
-    let known = copied(alloc, draft.keys.as_slice())?;
-    let table = with_keys(alloc, known, places.as_slice(), keys.as_slice())?;
+    let table = with_keys(
+        alloc,
+        known.keys().copy(alloc)?,
+        places.as_slice(),
+        keys.as_slice(),
+    )?;
     Ok((f, table))
 }
 
-/// The number of the formula's own label, which is the first.
-pub(crate) fn own(table: &[Key], keys: &[Key]) -> usize
-    ensures number { result ≡ own_number table.now keys.now }
-    ensures within { result ≤ length table.now }
+/// The number of the formula's own label in the table, which is the first of its labels.
+pub(crate) fn own_number(table: &KnownKeys, keys: &[Key]) -> u32
+    ensures { result ≡ own_number table.now keys.now }
 {
     match keys {
         [] => 0,
-        [own, ..] => number(table, own),
+        [own, ..] => table.number(own),
+    }
+}
+
+/// The sorts of the free variables of the formula's own label.
+pub(crate) fn own_sorts(alloc: Global, keys: &[Key]) -> Result<List<SortId>, Memory>
+    ensures { IfOk result (λ sorts. sorts ≡ own_sorts keys.now) }
+{
+    match keys {
+        [] => copied(alloc, &[]),
+        [own, ..] => copied(alloc, own.sorts.as_slice()),
     }
 }
 
 /// That the listed variables are the free ones, so many of them.
-#[tactic(auto, unfolding(crate::specs::Labelling::free_name))]
+#[tactic(auto, unfolding(lv_grammar::specs::Labelling::free_name))]
 pub(crate) fn check_free(params: &[Parameter], number: u32, free: &[u32]) -> Result<(), ReadText>
     ensures { Gives (λ x. x) result (free_name (places_of (params_seen params.now)) number free.now) }
 {

@@ -1,19 +1,19 @@
 //! What items have in common: names, marks, lists of sorts and of parameters.
 ghost use Rattle.std.specs.Prelude.{◌≡◌, ◌++◌, ◌∷◌, [], IfOk, IfErr};
-ghost use Rattle.lv_reading.specs.Given.{Gives};
-ghost use Rattle.lv_syntax.specs.Items.{mark_in, sorts_in, parameters_in, sorts_of, places_of, name_in, opened_in};
+ghost use Rattle.lv_fault.specs.Given.{Gives};
+ghost use Rattle.lv_grammar.specs.ReadItems.{mark_in, sorts_in, parameters_in, ranges_of, name_in, opened_in};
 ghost use Rattle.lv_syntax.specs.Behind.{sorts_behind, parameter_in, pairs_behind};
 ghost use Rattle.lv_syntax.specs.Parameters.{params_seen, opening_seen};
 
-use crate::draft::Draft;
-use crate::growing::Growing;
-use crate::names::{new_name, new_variable, sort};
-use crate::scope::{Parameter, Scope};
-use lv_formula::{List, SortId, Text};
-use lv_reading::trees::{finish, list, next, place, refusal, refuse_if, word};
-use lv_reading::{Kind, ReadText};
+use lv_fault::trees::{finish, list, next, place, refusal, refuse_if, word};
+use lv_fault::{Kind, ReadText};
+use lv_formula::{List, Memory, SortId};
 use lv_system::same_bytes;
 use lv_tree::Tree;
+use lv_words::growing::Growing;
+use lv_words::known::Known;
+use lv_words::names::{new_name, new_variable, sort};
+use lv_words::scope::{Parameter, Scope};
 use std::alloc::Global;
 
 /// The first items of many a list: a name, parameters, and what follows.
@@ -24,15 +24,8 @@ pub(crate) struct Opening<'a> {
     pub(crate) rest: &'a [Tree],
 }
 
-pub(crate) fn text_of(alloc: Global, bytes: &[u8]) -> Result<Text, ReadText>
-    ensures text { IfOk result (λ text. text ≡ bytes.now) }
-    ensures memory { IfErr result (λ e. e ≡ ReadText.Memory) }
-{
-    Ok(List::from_vec(Vec::from_slice(alloc, bytes)?))
-}
-
 /// Whether this word follows as the last item, or nothing does.
-#[tactic(auto, unfolding(crate::specs::Items::mark_in))]
+#[tactic(auto, unfolding(lv_grammar::specs::ReadItems::mark_in))]
 pub(crate) fn is_marked(text: &[u8], items: &[Tree]) -> Result<bool, ReadText>
     ensures { Gives (λ x. x) result (mark_in text.now items.now) }
 {
@@ -50,35 +43,35 @@ pub(crate) fn is_marked(text: &[u8], items: &[Tree]) -> Result<bool, ReadText>
 /// `SORT ..`, at most four, behind those that are done.
 #[tactic(auto, unfolding(crate::specs::Behind::sorts_behind))]
 fn sorts_after(
-    draft: &Draft,
+    known: &Known,
     mut done: Growing<SortId>,
     items: &[Tree],
 ) -> Result<Growing<SortId>, ReadText>
-    ensures { Gives (λ x. x) result (sorts_behind draft.now done items.now) }
+    ensures { Gives (λ x. x) result (sorts_behind known.now done items.now) }
 {
     match items {
         [] => Ok(done),
         [first, rest @ ..] => {
-            let sort = sort(draft, first)?;
+            let sort = sort(known, first)?;
             refuse_if(done.as_slice().len() >= 4, Kind::TooMany, place(first))?;
             done.push(sort)?;
-            sorts_after(draft, done, rest)
+            sorts_after(known, done, rest)
         }
     }
 }
 
 /// `(SORT ..)`
-#[tactic(auto, using(crate::proofs::BehindLaws::sorts_read), unfolding(crate::specs::Items::sorts_in))]
-pub(crate) fn sorts(alloc: Global, draft: &Draft, tree: &Tree) -> Result<List<SortId>, ReadText>
-    ensures { Gives (λ x. x) result (sorts_in draft.now tree.now) }
+#[tactic(auto, using(crate::proofs::BehindLaws::sorts_read), unfolding(lv_grammar::specs::ReadItems::sorts_in))]
+pub(crate) fn sorts(alloc: Global, known: &Known, tree: &Tree) -> Result<List<SortId>, ReadText>
+    ensures { Gives (λ x. x) result (sorts_in known.now tree.now) }
 {
     let inside = list(tree)?;
-    let sorts = sorts_after(draft, Growing::new(alloc), inside.items)?;
+    let sorts = sorts_after(known, Growing::new(alloc), inside.items)?;
     Ok(sorts.into_list())
 }
 
 /// The name of a new variable in the scope of these parameters alone.
-#[tactic(auto, using(crate::proofs::ScopeLemmas::scope_same, crate::proofs::ScopeLemmas::params_length), unfolding(crate::specs::Behind::parameter_in))]
+#[tactic(auto, using(crate::proofs::ScopeLaws::scope_same, crate::proofs::ScopeLaws::params_length), unfolding(crate::specs::Behind::parameter_in))]
 fn parameter<'a>(done: &[Parameter], tree: &'a Tree) -> Result<&'a [u8], ReadText>
     ensures { Gives (λ x. x.now) result (parameter_in (params_seen done.now) tree.now) }
 {
@@ -89,7 +82,7 @@ fn parameter<'a>(done: &[Parameter], tree: &'a Tree) -> Result<&'a [u8], ReadTex
 }
 
 /// The parameters that are done, with one more behind them.
-#[tactic(auto, using(crate::proofs::ScopeLemmas::params_more))]
+#[tactic(auto, using(crate::proofs::ScopeLaws::params_more))]
 fn with_parameter<'a>(
     mut done: Growing<Parameter<'a>>,
     at: u32,
@@ -106,12 +99,12 @@ fn with_parameter<'a>(
 /// `VAR SORT ..`, behind the pairs that are done.
 #[tactic(auto, unfolding(crate::specs::Behind::pairs_behind))]
 fn pairs<'a>(
-    draft: &Draft,
+    known: &Known,
     done: Growing<Parameter<'a>>,
     end: u32,
     items: &'a [Tree],
 ) -> Result<Growing<Parameter<'a>>, ReadText>
-    ensures { Gives params_seen result (pairs_behind draft.now (params_seen done.entry) end items.now) }
+    ensures { Gives params_seen result (pairs_behind known.now (params_seen done.entry) end items.now) }
 {
     match items {
         [] => Ok(done),
@@ -120,9 +113,9 @@ fn pairs<'a>(
             match rest {
                 [] => Err(refusal(Kind::Missing, end)),
                 [second, rest @ ..] => {
-                    let sort = sort(draft, second)?;
+                    let sort = sort(known, second)?;
                     let done = with_parameter(done, place(first), name, sort)?;
-                    pairs(draft, done, end, rest)
+                    pairs(known, done, end, rest)
                 }
             }
         }
@@ -130,25 +123,24 @@ fn pairs<'a>(
 }
 
 /// `(VAR SORT ..)`
-#[tactic(auto, using(crate::proofs::BehindLaws::pairs_read), unfolding(crate::specs::Items::parameters_in))]
+#[tactic(auto, using(crate::proofs::BehindLaws::pairs_read), unfolding(lv_grammar::specs::ReadItems::parameters_in))]
 fn parameters<'a>(
     alloc: Global,
-    draft: &Draft,
+    known: &Known,
     tree: &'a Tree,
 ) -> Result<Growing<Parameter<'a>>, ReadText>
-    ensures { Gives params_seen result (parameters_in draft.now tree.now) }
+    ensures { Gives params_seen result (parameters_in known.now tree.now) }
 {
     let inside = list(tree)?;
-    pairs(draft, Growing::new(alloc), inside.end, inside.items)
+    pairs(known, Growing::new(alloc), inside.end, inside.items)
 }
 
 /// The parameters' sorts.
 pub(crate) fn sorts_of_parameters(
     alloc: Global,
     params: &[Parameter],
-) -> Result<List<SortId>, ReadText>
-    ensures sorts { IfOk result (λ sorts. sorts ≡ sorts_of (params_seen params.now)) }
-    ensures memory { IfErr result (λ e. e ≡ ReadText.Memory) }
+) -> Result<List<SortId>, Memory>
+    ensures { IfOk result (λ sorts. sorts ≡ ranges_of (params_seen params.now)) }
 {
     let mut sorts = Vec::new(alloc);
     for param in params {
@@ -158,31 +150,31 @@ pub(crate) fn sorts_of_parameters(
 }
 
 /// A name, and what follows it.
-#[tactic(auto, unfolding(crate::specs::Items::name_in))]
+#[tactic(auto, unfolding(lv_grammar::specs::ReadItems::name_in))]
 pub(crate) fn name<'a>(
-    draft: &Draft,
+    known: &Known,
     end: u32,
     items: &'a [Tree],
 ) -> Result<(&'a [u8], &'a [Tree]), ReadText>
-    ensures { Gives (λ x. (x.0.now, x.1.now)) result (name_in draft.now end items.now) }
+    ensures { Gives (λ x. (x.0.now, x.1.now)) result (name_in known.now end items.now) }
 {
     let (first, rest) = next(end, items)?;
-    let name = new_name(draft, first)?;
+    let name = new_name(known, first)?;
     Ok((name, rest))
 }
 
 /// A name, parameters, and what follows.
-#[tactic(auto, unfolding(crate::specs::Items::opened_in))]
+#[tactic(auto, unfolding(lv_grammar::specs::ReadItems::opened_in))]
 pub(crate) fn open<'a>(
     alloc: Global,
-    draft: &Draft,
+    known: &Known,
     end: u32,
     items: &'a [Tree],
 ) -> Result<Opening<'a>, ReadText>
-    ensures { Gives opening_seen result (opened_in draft.now end items.now) }
+    ensures { Gives opening_seen result (opened_in known.now end items.now) }
 {
-    let (name, rest) = name(draft, end, items)?;
+    let (name, rest) = name(known, end, items)?;
     let (second, rest) = next(end, rest)?;
-    let params = parameters(alloc, draft, second)?;
+    let params = parameters(alloc, known, second)?;
     Ok(Opening { name, params, rest })
 }

@@ -1,13 +1,13 @@
 //! The system that a tree spells, for those who stand above.
 ghost use Rattle.std.specs.Prelude.{IfOk, IfErr};
 ghost use Rattle.lv_system.specs.declared.parts.Parts.{Parts};
+ghost use Rattle.lv_fault.specs.Given.{Fails};
 ghost use Rattle.lv_grammar.specs.Spelling.{SpellsSystem};
-ghost use Rattle.lv_reading.specs.Given.{Fails};
-ghost use Rattle.lv_syntax.specs.Items.{system_of};
+ghost use Rattle.lv_grammar.specs.Reading.{system_of};
 ghost use Rattle.lv_syntax.specs.Reader.{IsSystemOrMemory};
 
 use crate::system::read_parts;
-use lv_reading::ReadText;
+use lv_fault::ReadText;
 use lv_system::System;
 use lv_tree::Tree;
 use std::alloc::Global;

@@ -2,7 +2,7 @@ use Rattle.std.proofs.Common.{◌≡◌, ◌≤◌, ◌+◌, length, get_or, dro
 use Rattle.std.proofs.lemmas.Result.{err_from_is_err_and}
 use Rattle.lv_formula.specs.declared.symbols.Sym.TheVariants.{Own}
 use Rattle.lv_reading.specs.Structures.{entries_in, next_entry}
-use Rattle.lv_reading.proofs.BehindLaws.{goes_on, stops}
+use Rattle.lv_fault.proofs.BehindLaws.{goes_on, stops}
 use Rattle.lv_reading.proofs.StructureSteps.{entries_end, entries_split}
 use Rattle.lv_reading.proofs.structures.entries.Goals as goal
 

@@ -1,8 +1,8 @@
 use Rattle.std.proofs.Common.{◌+◌, ◌-◌, ◌++◌, ◌∷◌, [], sym, ◌∙◌}
 use Rattle.std.proofs.lemmas.Result.{err_from_is_err_and}
-use Rattle.lv_reading.specs.Behind.{front_behind}
+use Rattle.lv_fault.specs.Behind.{front_behind}
 use Rattle.lv_reading.specs.Structures.{next_size, sizes_in}
-use Rattle.lv_reading.proofs.BehindLaws.{goes_on, stops}
+use Rattle.lv_fault.proofs.BehindLaws.{goes_on, stops}
 use Rattle.lv_reading.proofs.StructureSteps.{sizes_end, sizes_many, sizes_some, sizes_split}
 use Rattle.lv_reading.proofs.structures.sizes.Goals as goal
 

@@ -1,5 +1,5 @@
 use Rattle.std.proofs.Common.{◌≡◌, ◌-◌}
-use Rattle.lv_reading.specs.Behind.{front_behind}
+use Rattle.lv_fault.specs.Behind.{front_behind}
 use Rattle.lv_reading.specs.Structures.{sizes_in}
 use Rattle.lv_reading.proofs.structures.sizes.Given as goal
 

@@ -1,6 +1,6 @@
 use Rattle.std.proofs.Common.{rules}
 use Rattle.lv_reading.specs.Structures.{elements_in}
-use Rattle.lv_reading.proofs.BehindLaws.{nothing_done}
+use Rattle.lv_fault.proofs.BehindLaws.{nothing_done}
 use Rattle.lv_reading.proofs.TupleLaws.{in_range}
 use Rattle.lv_reading.proofs.tuples.elements.Goals as goal
 

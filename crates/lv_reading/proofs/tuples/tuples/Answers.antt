@@ -1,7 +1,7 @@
 use Rattle.std.proofs.Common.{sym, ◌∙◌, arith}
 use Rattle.std.proofs.lemmas.Result.{err_from_is_err_and}
 use Rattle.lv_reading.specs.Structures.{tuple_in}
-use Rattle.lv_reading.proofs.BehindLaws.{stops}
+use Rattle.lv_fault.proofs.BehindLaws.{stops}
 use Rattle.lv_reading.proofs.TupleLaws.{tuples_end, tuples_go_on, tuples_split}
 use Rattle.lv_reading.proofs.tuples.tuples.Goals as goal
 

@@ -1,7 +1,7 @@
 use Rattle.std.proofs.Common.{◌≡◌, drop}
 use Rattle.std.specs.List.{All}
 use Rattle.lv_struct.specs.Tables.{IsInRange}
-use Rattle.lv_reading.specs.Behind.{behind}
+use Rattle.lv_fault.specs.Behind.{behind}
 use Rattle.lv_reading.specs.Structures.{tuples_in}
 use Rattle.lv_reading.proofs.tuples.tuples.Given as goal
 

@@ -1,6 +1,6 @@
 use Rattle.std.proofs.Common.{refl}
 use Rattle.std.proofs.lemmas.Result.{err_from_is_err_and}
-use Rattle.lv_reading.proofs.BehindLaws.{stops}
+use Rattle.lv_fault.proofs.BehindLaws.{stops}
 use Rattle.lv_run.specs.Requests.{check_behind, check_of}
 use Rattle.lv_run.proofs.requests.read_check.Goals as goal
 

@@ -1,5 +1,5 @@
 use Rattle.std.proofs.Common.{◌≡◌, ◌++◌, drop}
-use Rattle.lv_syntax.specs.Labelling.{operator_places_all}
+use Rattle.lv_grammar.specs.Labelling.{operator_places_all}
 use Rattle.lv_syntax.proofs.labelling.+places.Given as goal
 
 abbrev pub invariant-push_all_places-loop-item : goal.invariant-push_all_places-loop-item

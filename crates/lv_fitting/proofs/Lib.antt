@@ -1,0 +1,15 @@
+pub mod Entries
+pub mod FormulaFits
+pub mod InvariantFits
+pub mod KeyTest
+pub mod LabelStages
+pub mod OwnLabels
+pub mod SaidWords
+pub mod SpellFacts
+pub mod SpokenWords
+pub mod Stages
+pub mod StateFacts
+pub mod StateFits
+pub mod SystemFits
+pub mod TableLaws
+pub mod Tests

@@ -1,0 +1,4 @@
+pub mod BehindLaws
+pub mod Fronts
+pub mod Rooms
+pub mod ScopeLemmas
